@@ -1,0 +1,7 @@
+pub mod Constants
+pub mod Known
+pub mod Leaves
+pub mod Power
+pub mod Root
+pub mod Scale
+pub mod Upper

@@ -1,0 +1,2 @@
+-- Laws for `powi`, on plain values.
+pub mod Turns
