@@ -57,6 +57,8 @@ abbrev signedCasts : List (Row ℕ ℤ)
 signedCasts =
     (0x43e0000000000000 ⇒ pos 9223372036854775807)  -- 2^63
     ∷ (0x43dfffffffffffff ⇒ pos 9223372036854774784)  -- the number below it
+    ∷ (0x43e0000000000001 ⇒ pos 9223372036854775807)  -- the number above it
+    ∷ (0x43f0000000000000 ⇒ pos 9223372036854775807)  -- 2^64
     ∷ (0xc3e0000000000000 ⇒ negsuc 9223372036854775807)  -- -2^63
     ∷ (0xc3dfffffffffffff ⇒ negsuc 9223372036854774783)  -- the number above it
     ∷ (0xc3e0000000000001 ⇒ negsuc 9223372036854775807)  -- the number below it
