@@ -9,7 +9,7 @@ use lib.Ieee.{Float, nan, inf, fin, Format, prec, emax, low, nearest, fits, bina
 use lib.Ieee.Fits.{nearest-le, odd-fits, nan-fits, inf-fits, nan-fits, inf-fits, mul-fits, cond-fits}
 use Rattle.float.specs.Constants.{one}
 use Rattle.float.specs.Leaves.{absOf, largerOf}
-use Rattle.float.specs.Power.{powBy, power}
+use Rattle.float.specs.Power.{Product, none, some, also, total, powBy, powerOf, power}
 use Rattle.float.specs.Root.{root, rooted}
 use Rattle.float.proofs.Rooted.{side, rooted-def}
 use Rattle.float.proofs.RootedScale.{dropped, kept, between-own, kept-low, kept-high}
@@ -58,15 +58,31 @@ larger-fits f nan y h g = g
 larger-fits f (inf s) y h g = cond-fits f (lt (inf s) y) y (inf s) g h
 larger-fits f (fin s m e) y h g = cond-fits f (lt (fin s m e) y) y (fin s m e) g h
 
--- a power is 1, or a product
-pow-by-fits : (d : ℕ) (done : Bool) (r a : Float) (b : ℕ) → T (fits binary64 r) → T (fits binary64 (powBy (mul binary64) d done r a b))
-unfolding powBy
-pow-by-fits zero done r a b h = h
-pow-by-fits (suc d) true r a b h = h
-pow-by-fits (suc d) false r a b h =
-    pow-by-fits d (eqb (b / 2) 0) (cond (eqb (b % 2) 1) (mul binary64 r a) r) (mul binary64 a a) (b / 2)
-    (cond-fits binary64 (eqb (b % 2) 1) (mul binary64 r a) r (mul-fits binary64 r a) h)
+-- a power is 1, the number itself or a product
+holds : Product Float → Type 0
+holds none = Unit {0}
+holds (some r) = T (fits binary64 r)
 
-pub power-fits : (x : Float) (n : ℕ) → T (fits binary64 (power x n))
-unfolding power fits
-power-fits x n = pow-by-fits n (eqb n 0) one x n tt
+also-holds : (t : Bool) (r : Product Float) (a : Float) → holds r → T (fits binary64 a) → holds (cond t (also (mul binary64) r a) r)
+unfolding holds
+also-holds true none a h g = g
+also-holds true (some r) a h g = mul-fits binary64 r a
+also-holds false r a h g = h
+
+pow-by-holds : (d : ℕ) (done : Bool) (r : Product Float) (a : Float) (b : ℕ) → holds r → T (fits binary64 a) → holds (powBy (mul binary64) d done r a b)
+unfolding powBy
+pow-by-holds zero done r a b h g = h
+pow-by-holds (suc d) true r a b h g = h
+pow-by-holds (suc d) false r a b h g =
+    pow-by-holds d (eqb (b / 2) 0) (cond (eqb (b % 2) 1) (also (mul binary64) r a) r) (mul binary64 a a) (b / 2)
+    (also-holds (eqb (b % 2) 1) r a h g)
+    (mul-fits binary64 a a)
+
+total-fits : (p : Product Float) → holds p → T (fits binary64 (total one p))
+unfolding holds fits
+total-fits none h = tt
+total-fits (some r) h = h
+
+pub power-fits : (x : Float) (n : ℕ) → T (fits binary64 x) → T (fits binary64 (power x n))
+unfolding powerOf holds
+power-fits x n h = total-fits (powBy (mul binary64) n (eqb n 0) none x n) (pow-by-holds n (eqb n 0) none x n tt h)

@@ -6,7 +6,7 @@ use Prim.Native.Nat.{ℕ}
 use lib.IntN.{ℤ, pos, negsuc}
 use lib.Ieee.{Float, binary64, ofBits, toBits, ofInt, toSigned, toUnsigned, lt, mul}
 use Rattle.float.specs.Leaves.{absOf, finite, largerOf}
-use Rattle.float.specs.Power.{power}
+use Rattle.float.specs.Power.{powerOf, power}
 use Rattle.float.specs.Root.{root}
 
 infix 68 _⇒_
@@ -163,5 +163,5 @@ powers =
     ∷ []
 
 known-powers : answers (λ n. bits (power (float 0x3fb999999999999a) n)) powers ≡ expected powers
-unfolding answers expected power mul ofBits toBits
+unfolding answers expected powerOf mul ofBits toBits
 known-powers = refl

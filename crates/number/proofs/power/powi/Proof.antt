@@ -1,10 +1,11 @@
 -- `number::power::powi` meets its contract: each turn takes one digit of n, and what is left stays the same (`Turns.antt`). Assumes nothing.
 use native.Mathlib.Omega.{arith}
-use mathlib.Core.Path.{sym, ap, _∙_}
+use mathlib.Core.Path.{sym, subst, ap, _∙_}
 use mathlib.Core.Logic.{⊎-elim}
 use mathlib.Core.Bool.{Bool, cond}
 use Prim.Native.Nat.{_/_, _%_}
 use borrow.Author.Tests.{eq-eqb, ne-eqb}
+use lib.Dec.{T}
 use lib.Ieee.{binary64, mul, ofBits}
 use Rattle.number.proofs.power.Turns.{Left, begins, turn, idle, ends}
 use Rattle.number.proofs.power.powi.Statement.{statement}
@@ -18,7 +19,7 @@ abbrev μ-loop : tie.MeasureT-loop
 
 loop-holds : tie.Need-loop-holds Inv-loop μ-loop
 unfolding ofBits
-loop-holds c = begins (c .args .x) (c .args .n)
+loop-holds c = begins (c .args .x) (c .args .n) (subst T (sym (c .good .0 .1)) tt)
 
 loop-less : tie.Need-loop-less Inv-loop μ-loop
 loop-less c = omega arith
@@ -40,7 +41,7 @@ loop-less-2 : tie.Need-loop-less-2 Inv-loop μ-loop
 loop-less-2 c = omega arith
 
 loop-again-2 : tie.Need-loop-again-2 Inv-loop μ-loop
-loop-again-2 c = idle _ _ _ _ _ _ (turned (c .before)) (c .if2 .left)
+loop-again-2 c = idle _ _ _ _ _ _ (turned (c .before)) (c .before .before .before .loop .inv .held) (c .if2 .left)
 
 returns : tie.Need-returns Inv-loop μ-loop
 returns c = ends _ _ _ _ _ (c .before .loop .inv) (c .loop-test .left)
