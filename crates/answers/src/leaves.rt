@@ -1,0 +1,96 @@
+// Requests of the number leaves. Each takes the request and the place after its name and blank.
+use crate::fields;
+use crate::fields::Fraction;
+use crate::replies::Reply;
+use text::Instant;
+use text::Number;
+
+// The one fraction that is the rest of a request.
+enum Rest {
+    Is(f64),
+    No,
+}
+
+fn read_rest(s: &[u8], at: usize) -> Rest {
+    let Fraction::Is(x, k) = fields::read_fraction(s, at) else {
+        return Rest::No;
+    };
+    if k == s.len() {
+        return Rest::Is(x);
+    }
+    Rest::No
+}
+
+pub(crate) fn sqrt(s: &[u8], at: usize) -> Reply {
+    let Rest::Is(x) = read_rest(s, at) else {
+        return Reply::Bad;
+    };
+    Reply::Fraction(root::sqrt(x))
+}
+
+pub(crate) fn abs(s: &[u8], at: usize) -> Reply {
+    let Rest::Is(x) = read_rest(s, at) else {
+        return Reply::Bad;
+    };
+    Reply::Fraction(number::abs(x))
+}
+
+pub(crate) fn is_finite(s: &[u8], at: usize) -> Reply {
+    let Rest::Is(x) = read_rest(s, at) else {
+        return Reply::Bad;
+    };
+    if number::is_finite(x) {
+        return Reply::Natural(1);
+    }
+    Reply::Natural(0)
+}
+
+pub(crate) fn as_i64(s: &[u8], at: usize) -> Reply {
+    let Rest::Is(x) = read_rest(s, at) else {
+        return Reply::Bad;
+    };
+    Reply::Instant(number::as_i64(x))
+}
+
+pub(crate) fn as_usize(s: &[u8], at: usize) -> Reply {
+    let Rest::Is(x) = read_rest(s, at) else {
+        return Reply::Bad;
+    };
+    Reply::Natural(number::as_usize(x) as u64)
+}
+
+pub(crate) fn i64_as_f64(s: &[u8], at: usize) -> Reply {
+    let Instant::Is(n, k) = text::read_instant(s, at) else {
+        return Reply::Bad;
+    };
+    if k != s.len() {
+        return Reply::Bad;
+    }
+    Reply::Fraction(number::i64_as_f64(n))
+}
+
+pub(crate) fn larger(s: &[u8], at: usize) -> Reply {
+    let Fraction::Is(x, k) = fields::read_fraction(s, at) else {
+        return Reply::Bad;
+    };
+    let Fraction::Is(y, e) = fields::read_next_fraction(s, k) else {
+        return Reply::Bad;
+    };
+    if e != s.len() {
+        return Reply::Bad;
+    }
+    Reply::Fraction(number::larger(x, y))
+}
+
+pub(crate) fn powi(s: &[u8], at: usize) -> Reply {
+    let Fraction::Is(x, k) = fields::read_fraction(s, at) else {
+        return Reply::Bad;
+    };
+    let Number::Is(n, e) = fields::read_next_natural(s, k, 16) else {
+        return Reply::Bad;
+    };
+    if e != s.len() {
+        return Reply::Bad;
+    }
+    Reply::Fraction(number::powi(x, n as usize))
+}

@@ -1,0 +1,5 @@
+pub mod Bytes
+pub mod Decode
+pub mod Known
+pub mod Meaning
+pub mod Print
