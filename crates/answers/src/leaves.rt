@@ -5,58 +5,47 @@ use crate::replies::Reply;
 use text::Instant;
 use text::Number;
 
-// The one fraction that is the rest of a request.
-enum Rest {
-    Is(f64),
-    No,
-}
-
-fn read_rest(s: &[u8], at: usize) -> Rest {
-    let Fraction::Is(x, k) = fields::read_fraction(s, at) else {
-        return Rest::No;
-    };
-    if k == s.len() {
-        return Rest::Is(x);
-    }
-    Rest::No
-}
-
 pub(crate) fn sqrt(s: &[u8], at: usize) -> Reply {
-    let Rest::Is(x) = read_rest(s, at) else {
+    let mut v = [0.0f64; 1];
+    if !fields::read_rest(s, at, &mut v) {
         return Reply::Bad;
-    };
-    Reply::Fraction(root::sqrt(x))
+    }
+    Reply::Fraction(root::sqrt(v[0]))
 }
 
 pub(crate) fn abs(s: &[u8], at: usize) -> Reply {
-    let Rest::Is(x) = read_rest(s, at) else {
+    let mut v = [0.0f64; 1];
+    if !fields::read_rest(s, at, &mut v) {
         return Reply::Bad;
-    };
-    Reply::Fraction(number::abs(x))
+    }
+    Reply::Fraction(number::abs(v[0]))
 }
 
 pub(crate) fn is_finite(s: &[u8], at: usize) -> Reply {
-    let Rest::Is(x) = read_rest(s, at) else {
+    let mut v = [0.0f64; 1];
+    if !fields::read_rest(s, at, &mut v) {
         return Reply::Bad;
-    };
-    if number::is_finite(x) {
+    }
+    if number::is_finite(v[0]) {
         return Reply::Natural(1);
     }
     Reply::Natural(0)
 }
 
 pub(crate) fn as_i64(s: &[u8], at: usize) -> Reply {
-    let Rest::Is(x) = read_rest(s, at) else {
+    let mut v = [0.0f64; 1];
+    if !fields::read_rest(s, at, &mut v) {
         return Reply::Bad;
-    };
-    Reply::Instant(number::as_i64(x))
+    }
+    Reply::Instant(number::as_i64(v[0]))
 }
 
 pub(crate) fn as_usize(s: &[u8], at: usize) -> Reply {
-    let Rest::Is(x) = read_rest(s, at) else {
+    let mut v = [0.0f64; 1];
+    if !fields::read_rest(s, at, &mut v) {
         return Reply::Bad;
-    };
-    Reply::Natural(number::as_usize(x) as u64)
+    }
+    Reply::Natural(number::as_usize(v[0]) as u64)
 }
 
 pub(crate) fn i64_as_f64(s: &[u8], at: usize) -> Reply {
@@ -70,16 +59,11 @@ pub(crate) fn i64_as_f64(s: &[u8], at: usize) -> Reply {
 }
 
 pub(crate) fn larger(s: &[u8], at: usize) -> Reply {
-    let Fraction::Is(x, k) = fields::read_fraction(s, at) else {
-        return Reply::Bad;
-    };
-    let Fraction::Is(y, e) = fields::read_next_fraction(s, k) else {
-        return Reply::Bad;
-    };
-    if e != s.len() {
+    let mut v = [0.0f64; 2];
+    if !fields::read_rest(s, at, &mut v) {
         return Reply::Bad;
     }
-    Reply::Fraction(number::larger(x, y))
+    Reply::Fraction(number::larger(v[0], v[1]))
 }
 
 pub(crate) fn powi(s: &[u8], at: usize) -> Reply {

@@ -38,7 +38,7 @@ fn place(out: &[u8], at: usize) -> usize {
     0
 }
 
-fn reply_to(line: &[u8], s: State) -> Reply {
+fn reply_to(line: &[u8], xs: &mut [f64], s: State) -> Reply {
     let n = s.len;
     if s.long {
         return Reply::Bad;
@@ -46,13 +46,14 @@ fn reply_to(line: &[u8], s: State) -> Reply {
     if line.len() < n {
         return Reply::Bad;
     }
-    requests::answer(&line[..n])
+    requests::answer(&line[..n], xs)
 }
 
 // The line is whole.
-fn answer(line: &[u8], out: &mut [u8], s: State) -> State {
+fn answer(line: &[u8], xs: &mut [f64], out: &mut [u8], s: State) -> State {
     let at = place(out, s.at);
-    let to = replies::put(out, at, reply_to(line, s));
+    let r = reply_to(line, xs, s);
+    let to = replies::put(out, at, r, xs);
     State {
         len: 0,
         long: false,
@@ -61,9 +62,9 @@ fn answer(line: &[u8], out: &mut [u8], s: State) -> State {
     }
 }
 
-fn take_byte(b: u8, line: &mut [u8], out: &mut [u8], s: State) -> State {
+fn take_byte(b: u8, line: &mut [u8], xs: &mut [f64], out: &mut [u8], s: State) -> State {
     if b == 10 {
-        return answer(line, out, s);
+        return answer(line, xs, out, s);
     }
     let n = s.len;
     if n < line.len() {
@@ -83,11 +84,17 @@ fn take_byte(b: u8, line: &mut [u8], out: &mut [u8], s: State) -> State {
     }
 }
 
-pub(crate) fn take_in(chunk: &[u8], line: &mut [u8], out: &mut [u8], s: State) -> State {
+pub(crate) fn take_in(
+    chunk: &[u8],
+    line: &mut [u8],
+    xs: &mut [f64],
+    out: &mut [u8],
+    s: State,
+) -> State {
     let mut t = s;
     let mut i = 0;
     while i < chunk.len() {
-        t = take_byte(chunk[i], line, out, t);
+        t = take_byte(chunk[i], line, xs, out, t);
         i += 1;
     }
     flush(out, t.at);
@@ -102,7 +109,7 @@ pub(crate) fn take_in(chunk: &[u8], line: &mut [u8], out: &mut [u8], s: State) -
 // A last line with no newline is no request.
 pub(crate) fn end(out: &mut [u8], s: State) -> State {
     if 0 < s.len {
-        let to = replies::put(out, 0, Reply::Bad);
+        let to = replies::put_bad(out, 0);
         flush(out, to);
     }
     State {

@@ -4,29 +4,30 @@
 mod fields; // fields.rt: the words of a request
 mod leaves; // leaves.rt: the number leaves
 mod lines; // lines.rt: lines out of a stream of bytes
+mod orders; // orders.rt: moments and their orders
 mod replies; // replies.rt: the answers, and how each is printed
 mod requests; // requests.rt: which request a line is
 
 use lines::State;
 
 // Reads once and takes in what came. At the end of the input, what is left is no line.
-fn serve(line: &mut [u8], out: &mut [u8], s: State) -> State {
+fn serve(line: &mut [u8], xs: &mut [f64], out: &mut [u8], s: State) -> State {
     let mut chunk = io::large_buffer();
     let got = libc::read(0, &mut chunk);
     let n = io::count(got, &chunk);
     if n == 0 {
         return lines::end(out, s);
     }
-    lines::take_in(&chunk[..n], line, out, s)
+    lines::take_in(&chunk[..n], line, xs, out, s)
 }
 
 // A proved loop has to end, and nothing says that the input does. So the loop counts its turns
 // down, from a number that no run uses up.
-fn serve_all(line: &mut [u8], out: &mut [u8]) {
+fn serve_all(line: &mut [u8], xs: &mut [f64], out: &mut [u8]) {
     let mut s = lines::begin();
     let mut turns = u64::MAX;
     while turns > 0 {
-        s = serve(line, out, s);
+        s = serve(line, xs, out, s);
         if s.over {
             turns = 0;
         } else {
@@ -38,6 +39,8 @@ fn serve_all(line: &mut [u8], out: &mut [u8]) {
 fn main() {
     // a line has 65,536 bytes at most, its newline counted
     let mut line = [0u8; 65535];
+    // an answer that is a list of fractions
+    let mut xs = [0.0f64; 16384];
     let mut out = [0u8; 524288];
-    serve_all(&mut line, &mut out);
+    serve_all(&mut line, &mut xs, &mut out);
 }

@@ -1,5 +1,7 @@
 // Which request a line is. Each name is read with its blank; a line that begins with none is bad.
+// Answers that are lists are left in xs.
 use crate::leaves;
+use crate::orders;
 use crate::replies::Reply;
 use text::Next;
 
@@ -11,7 +13,16 @@ fn begins(s: &[u8], name: &[u8]) -> bool {
     }
 }
 
-pub(crate) fn answer(s: &[u8]) -> Reply {
+// A group that does not know the name answers `Bad`, and the next is asked.
+pub(crate) fn answer(s: &[u8], xs: &mut [f64]) -> Reply {
+    let r = of_leaves(s);
+    match r {
+        Reply::Bad => of_orders(s, xs),
+        _ => r,
+    }
+}
+
+fn of_leaves(s: &[u8]) -> Reply {
     if begins(s, b"sqrt ") {
         return leaves::sqrt(s, 5);
     }
@@ -35,6 +46,19 @@ pub(crate) fn answer(s: &[u8]) -> Reply {
     }
     if begins(s, b"powi ") {
         return leaves::powi(s, 5);
+    }
+    Reply::Bad
+}
+
+fn of_orders(s: &[u8], xs: &mut [f64]) -> Reply {
+    if begins(s, b"get_moments ") {
+        return orders::get_moments(s, 12);
+    }
+    if begins(s, b"centered_moment ") {
+        return orders::centered_moment(s, 16);
+    }
+    if begins(s, b"raw_moment ") {
+        return orders::raw_moment(s, 11, xs);
     }
     Reply::Bad
 }

@@ -132,7 +132,7 @@ finites =
     ∷ []
 
 known-finites : answers (λ b. finite (float b)) finites ≡ expected finites
-unfolding answers expected finite ofBits
+unfolding answers expected ofBits
 known-finites = refl
 
 -- ---- larger, of a number and 1

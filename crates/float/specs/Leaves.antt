@@ -9,7 +9,7 @@ absOf (inf s) = inf false
 absOf (fin s m e) = fin false m e
 
 -- neither infinite nor NaN
-unfoldable pub finite : Float → Bool
+abbrev pub finite : Float → Bool
 finite nan = false
 finite (inf s) = false
 finite (fin s m e) = true

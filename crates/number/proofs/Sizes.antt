@@ -45,7 +45,7 @@ self-sum true a c C = rw (le-ltb a a (le-refl a), sub-self a) (round-zero binary
 self-sum false a c C = rw (le-ltb a a (le-refl a), sub-self a) (round-zero binary64 false c C)
 
 pub finite-test : (x : Float) → eq (sub binary64 x x) nought ≡ finite x
-unfolding eq sub add neg sum finite
+unfolding eq sub add neg sum
 finite-test nan = refl
 finite-test (inf true) = refl
 finite-test (inf false) = refl

@@ -7,10 +7,10 @@ use Rattle.answers.proofs.serve_all.Statement.{statement}
 use Rattle.answers.proofs.serve_all.Tie as tie
 
 abbrev Inv-loop : tie.InvT-loop
-Inv-loop line₀ out₀ s₀ turns₀ line out s turns = (length line ≡ length line₀) × (length out ≡ length out₀)
+Inv-loop line₀ xs₀ out₀ s₀ turns₀ line xs out s turns = (length line ≡ length line₀) × (length xs ≡ length xs₀) × (length out ≡ length out₀)
 
 abbrev μ-loop : tie.MeasureT-loop
-μ-loop line₀ out₀ s₀ turns₀ line out s turns = turns
+μ-loop line₀ xs₀ out₀ s₀ turns₀ line xs out s turns = turns
 
 begin-requires : tie.Need-begin-requires Inv-loop μ-loop
 begin-requires c κs = search needs
@@ -42,6 +42,9 @@ same-length c = search needs
 same-length-2 : tie.Need-same-length-2 Inv-loop μ-loop
 same-length-2 c = search needs
 
+same-length-3 : tie.Need-same-length-3 Inv-loop μ-loop
+same-length-3 c = search needs
+
 returns : tie.Need-returns Inv-loop μ-loop
 returns c = search needs
 
@@ -61,4 +64,5 @@ serve-all-spec =
     loop-again-2
     same-length
     same-length-2
+    same-length-3
     returns)

@@ -8,10 +8,10 @@ use Rattle.answers.proofs.lines.take_in.Statement.{statement}
 use Rattle.answers.proofs.lines.take_in.Tie as tie
 
 abbrev Inv-loop : tie.InvT-loop
-Inv-loop chunk line₀ out₀ t₀ i₀ line out t i = (length line ≡ length line₀) × (length out ≡ length out₀)
+Inv-loop chunk line₀ xs₀ out₀ t₀ i₀ line xs out t i = (length line ≡ length line₀) × (length xs ≡ length xs₀) × (length out ≡ length out₀)
 
 abbrev μ-loop : tie.MeasureT-loop
-μ-loop chunk line₀ out₀ t₀ i₀ line out t i = length chunk - i
+μ-loop chunk line₀ xs₀ out₀ t₀ i₀ line xs out t i = length chunk - i
 
 loop-holds : tie.Need-loop-holds Inv-loop μ-loop
 loop-holds c = search needs
@@ -40,6 +40,9 @@ same-length c = search needs
 same-length-2 : tie.Need-same-length-2 Inv-loop μ-loop
 same-length-2 c = search needs
 
+same-length-3 : tie.Need-same-length-3 Inv-loop μ-loop
+same-length-3 c = search needs
+
 returns : tie.Need-returns Inv-loop μ-loop
 returns c = search needs
 
@@ -58,4 +61,5 @@ take-in-spec =
     flush-requires
     same-length
     same-length-2
+    same-length-3
     returns)

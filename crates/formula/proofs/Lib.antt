@@ -1,0 +1,11 @@
+-- Laws of formulas, each stated once.
+pub mod Exact
+pub mod Integers
+pub mod OperationScale
+pub mod Powers
+pub mod Quotient
+pub mod Ring
+pub mod RoundScale
+pub mod Runs
+pub mod Scaled
+pub mod WholeRuns

@@ -1,0 +1,5 @@
+pub mod Degree
+pub mod Formula
+pub mod Met
+pub mod Range
+pub mod Whole
