@@ -7,6 +7,8 @@ mod lines; // lines.rt: lines out of a stream of bytes
 mod orders; // orders.rt: moments and their orders
 mod replies; // replies.rt: the answers, and how each is printed
 mod requests; // requests.rt: which request a line is
+mod steps; // steps.rt: one step of the fit
+mod walks; // walks.rt: a walk of the fit
 
 use lines::State;
 
@@ -36,11 +38,23 @@ fn serve_all(line: &mut [u8], xs: &mut [f64], out: &mut [u8]) {
     }
 }
 
+// A line has 65,536 bytes at most, its newline counted.
+fn line_room() -> [u8; 65535] {
+    [0u8; 65535]
+}
+
+// An answer that is a list of fractions.
+fn list_room() -> [f64; 16384] {
+    [0.0f64; 16384]
+}
+
+fn out_room() -> [u8; 524288] {
+    [0u8; 524288]
+}
+
 fn main() {
-    // a line has 65,536 bytes at most, its newline counted
-    let mut line = [0u8; 65535];
-    // an answer that is a list of fractions
-    let mut xs = [0.0f64; 16384];
-    let mut out = [0u8; 524288];
+    let mut line = line_room();
+    let mut xs = list_room();
+    let mut out = out_room();
     serve_all(&mut line, &mut xs, &mut out);
 }

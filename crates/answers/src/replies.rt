@@ -1,6 +1,17 @@
 // The answers, and how each is printed.
 use crate::fields;
 use moments::Five;
+use moments::Params;
+use step::Step;
+
+// How a walk ended, and the state after it.
+pub(crate) struct Report {
+    pub(crate) count: u64,
+    pub(crate) reason: u64,
+    pub(crate) parameters: Params,
+    pub(crate) error: f64,
+    pub(crate) new_moments: Five,
+}
 
 pub(crate) enum Reply {
     // the line is no request
@@ -11,6 +22,8 @@ pub(crate) enum Reply {
     Natural(u64),
     Instant(i64),
     Moments(Five),
+    Step(Step),
+    Walked(Report),
     // so many fractions, which stand in a list beside the reply
     Listed(usize),
 }
@@ -29,11 +42,22 @@ fn put_words(out: &mut [u8], at: usize, r: Reply, xs: &[f64]) -> usize {
     match r {
         Reply::Bad => text::put(out, at, b"bad"),
         Reply::Refused(n) => put_refused(out, at, n),
+        Reply::Moments(m) => put_ok_moments(out, at, m),
+        Reply::Step(t) => put_step(out, at, t),
+        Reply::Walked(w) => put_report(out, at, w),
+        Reply::Listed(n) => put_listed(out, at, n, xs),
+        _ => put_value(out, at, r),
+    }
+}
+
+// An answer that is one value; any other is not put. Apart from put_words, for two short proofs
+// cost less than one long.
+fn put_value(out: &mut [u8], at: usize, r: Reply) -> usize {
+    match r {
         Reply::Fraction(x) => put_ok_fraction(out, at, x),
         Reply::Natural(n) => put_ok_natural(out, at, n),
         Reply::Instant(i) => put_ok_instant(out, at, i),
-        Reply::Moments(m) => put_moments(out, at, m),
-        Reply::Listed(n) => put_listed(out, at, n, xs),
+        _ => at,
     }
 }
 
@@ -72,13 +96,47 @@ fn put_natural(out: &mut [u8], at: usize, n: u64) -> usize {
     text::put_decimal(out, k, n)
 }
 
+fn put_ok_moments(out: &mut [u8], at: usize, m: Five) -> usize {
+    let k = put_ok(out, at);
+    put_moments(out, k, m)
+}
+
 fn put_moments(out: &mut [u8], at: usize, m: Five) -> usize {
-    let a = put_ok(out, at);
-    let b = put_fraction(out, a, m.m_1);
+    let b = put_fraction(out, at, m.m_1);
     let c = put_fraction(out, b, m.m_2);
     let d = put_fraction(out, c, m.m_3);
     let e = put_fraction(out, d, m.m_4);
     put_fraction(out, e, m.m_5)
+}
+
+fn put_step(out: &mut [u8], at: usize, t: Step) -> usize {
+    match t {
+        Step::Admitted(p) => put_ok_params(out, at, p),
+        Step::Inadmissible => text::put(out, at, b"inadmissible"),
+    }
+}
+
+fn put_ok_params(out: &mut [u8], at: usize, p: Params) -> usize {
+    let k = put_ok(out, at);
+    put_params(out, k, p)
+}
+
+fn put_params(out: &mut [u8], at: usize, p: Params) -> usize {
+    let b = put_fraction(out, at, p.mu_1);
+    let c = put_fraction(out, b, p.mu_2);
+    let d = put_fraction(out, c, p.sigma_1);
+    let e = put_fraction(out, d, p.sigma_2);
+    put_fraction(out, e, p.p_1)
+}
+
+fn put_report(out: &mut [u8], at: usize, w: Report) -> usize {
+    let a = put_ok_natural(out, at, w.count);
+    let b = put_natural(out, a, w.reason);
+    let parameters = w.parameters;
+    let c = put_params(out, b, parameters);
+    let d = put_fraction(out, c, w.error);
+    let new_moments = w.new_moments;
+    put_moments(out, d, new_moments)
 }
 
 // How many, then so many fractions.

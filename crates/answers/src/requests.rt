@@ -3,6 +3,8 @@
 use crate::leaves;
 use crate::orders;
 use crate::replies::Reply;
+use crate::steps;
+use crate::walks;
 use text::Next;
 
 fn begins(s: &[u8], name: &[u8]) -> bool {
@@ -17,18 +19,44 @@ fn begins(s: &[u8], name: &[u8]) -> bool {
 pub(crate) fn answer(s: &[u8], xs: &mut [f64]) -> Reply {
     let r = of_leaves(s);
     match r {
-        Reply::Bad => of_orders(s, xs),
+        Reply::Bad => of_fit(s, xs),
         _ => r,
     }
 }
 
 fn of_leaves(s: &[u8]) -> Reply {
+    let r = of_numbers(s);
+    match r {
+        Reply::Bad => of_casts(s),
+        _ => r,
+    }
+}
+
+fn of_fit(s: &[u8], xs: &mut [f64]) -> Reply {
+    let r = of_orders(s, xs);
+    match r {
+        Reply::Bad => of_steps(s),
+        _ => r,
+    }
+}
+
+fn of_numbers(s: &[u8]) -> Reply {
     if begins(s, b"sqrt ") {
         return leaves::sqrt(s, 5);
     }
     if begins(s, b"abs ") {
         return leaves::abs(s, 4);
     }
+    if begins(s, b"larger ") {
+        return leaves::larger(s, 7);
+    }
+    if begins(s, b"powi ") {
+        return leaves::powi(s, 5);
+    }
+    Reply::Bad
+}
+
+fn of_casts(s: &[u8]) -> Reply {
     if begins(s, b"is_finite ") {
         return leaves::is_finite(s, 10);
     }
@@ -40,12 +68,6 @@ fn of_leaves(s: &[u8]) -> Reply {
     }
     if begins(s, b"i64_as_f64 ") {
         return leaves::i64_as_f64(s, 11);
-    }
-    if begins(s, b"larger ") {
-        return leaves::larger(s, 7);
-    }
-    if begins(s, b"powi ") {
-        return leaves::powi(s, 5);
     }
     Reply::Bad
 }
@@ -59,6 +81,19 @@ fn of_orders(s: &[u8], xs: &mut [f64]) -> Reply {
     }
     if begins(s, b"raw_moment ") {
         return orders::raw_moment(s, 11, xs);
+    }
+    Reply::Bad
+}
+
+fn of_steps(s: &[u8]) -> Reply {
+    if begins(s, b"iter_4 ") {
+        return steps::iter_4(s, 6);
+    }
+    if begins(s, b"iter_5 ") {
+        return steps::iter_5(s, 6);
+    }
+    if begins(s, b"walk ") {
+        return walks::walk(s, 4);
     }
     Reply::Bad
 }

@@ -1,0 +1,4 @@
+pub mod Degrees
+pub mod Examples
+pub mod StepScale
+pub mod WalkScale

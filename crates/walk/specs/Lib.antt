@@ -1,0 +1,4 @@
+pub mod Figures
+pub mod Parts
+pub mod Trail
+pub mod Walk
