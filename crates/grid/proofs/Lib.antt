@@ -1,0 +1,5 @@
+pub mod Flats
+pub mod Known
+pub mod Running
+pub mod Searching
+pub mod Sums

@@ -1,0 +1,59 @@
+-- One search, part by part: each part's answer put into the definition's place. Assumes nothing.
+use mathlib.Core.Path.{_≡_, refl, sym, ap, _∙_}
+use mathlib.Core.List.{List}
+use Prim.Native.Nat.{ℕ, zero, suc, _+_, _≤_}
+use native.Mathlib.Numerals.{add-one}
+use native.Mathlib.Omega.{arith}
+use lib.ListN.{getD}
+use lib.Ieee.{Float, nan}
+use Rattle.walk.specs.Walk.{walkOf}
+use Rattle.walk.specs.declared.M2N.{M2N}
+use Rattle.walk.specs.declared.Walked.{Walked}
+use Rattle.grid.specs.Refusals.{rowsOf, gridRefusal}
+use Rattle.grid.specs.Rows.{begun, centredState, movedState, movedBest}
+use Rattle.grid.specs.Search.{inForce, deviationOf, meanOf, looked, searchTo, foundBy, plainFit, centredFit, fitOf, answered, singleFit}
+use Rattle.grid.specs.declared.Best.{Best}
+use Rattle.grid.specs.declared.Epsilon.{Epsilon}
+use Rattle.grid.specs.declared.search.Search.{Search}
+use Rattle.grid.specs.declared.search.Searched.{Searched}
+use Rattle.grid.specs.declared.Outcome.the-variants.{Refused, Ended}
+
+-- one row more
+pub row-more : (m : M2N) (deviation : Float) (weights : List Float) (i : ℕ) (s s′ : Search) (μ : Float) (walked : Walked) → s ≡ searchTo m deviation weights i → μ ≡ meanOf m deviation (i + 1) → walked ≡ walkOf (s .state) μ (getD weights i nan) → s′ ≡ looked s (walked .state) → s′ ≡ searchTo m deviation weights (i + 1)
+unfolding searchTo
+row-more m deviation weights i s s′ μ walked hs hμ hw h =
+    h
+    ∙ ap (λ x. looked s (x .state)) (hw ∙ ap (λ x. walkOf (s .state) x (getD weights i nan)) (hμ ∙ ap (meanOf m deviation) (add-one i)))
+    ∙ ap (λ x. looked x (walkOf (x .state) (meanOf m deviation (suc i)) (getD weights i nan) .state)) hs
+    ∙ ap (searchTo m deviation weights) (sym (add-one i))
+
+-- the whole
+pub plain-is : (m : M2N) (epsilon : Float) (weights : List Float) (b : M2N) (d : Float) (n : ℕ) (s : Search) → b ≡ begun m epsilon → d ≡ deviationOf m → n ≡ rowsOf epsilon → s ≡ searchTo b d weights n → foundBy s ≡ plainFit m epsilon weights
+unfolding plainFit
+plain-is m epsilon weights b d n s hb hd hn hs =
+    ap foundBy (hs ∙ ap (λ x. searchTo x d weights n) hb ∙ ap (λ x. searchTo (begun m epsilon) x weights n) hd ∙ ap (searchTo (begun m epsilon) (deviationOf m) weights) hn)
+
+pub centred-is : (m : M2N) (epsilon : Float) (weights : List Float) (c : M2N) (s : Searched) (state : M2N) (best : Best) → c ≡ centredState m → s ≡ plainFit c epsilon weights → state ≡ movedState m epsilon (s .state .parameters) → best ≡ movedBest m (s .best) → record { state = state; best = best } ≡ centredFit m epsilon weights
+unfolding centredFit
+centred-is m epsilon weights c s state best hc hs hm hb =
+    rw (hm, hb)
+    (ap (λ x. record { state = movedState m epsilon (x .state .parameters); best = movedBest m (x .best) }) (hs ∙ ap (λ x. plainFit x epsilon weights) hc))
+
+pub five-given : (m c : M2N) → c ≡ centredState m → c .len ≤ 16
+unfolding centredState
+five-given m c h = omega (arith, ap (λ x. x .len) h)
+
+-- ---- answers
+refuses : (m : M2N) (s : Searched) (n : ℕ) → (n ≡ 0 → ⊥) → record { state = m; outcome = Refused n } ≡ answered n m s
+refuses m s zero h = absurd (h refl)
+refuses m s (suc n) h = refl
+
+pub refused : (m : M2N) (e : Epsilon) (weights : List Float) (epsilon : Float) (n : ℕ) → epsilon ≡ inForce m e → n ≡ gridRefusal m epsilon 1 weights → (n ≡ 0 → ⊥) → record { state = m; outcome = Refused n } ≡ singleFit m e weights
+unfolding singleFit
+refused m e weights epsilon n he hn h =
+    refuses m (fitOf m (inForce m e) weights) n h ∙ ap (λ x. answered x m (fitOf m (inForce m e) weights)) (hn ∙ ap (λ x. gridRefusal m x 1 weights) he)
+
+pub ended : (m : M2N) (e : Epsilon) (weights : List Float) (epsilon : Float) (s : Searched) → epsilon ≡ inForce m e → 0 ≡ gridRefusal m epsilon 1 weights → s ≡ fitOf m epsilon weights → record { state = s .state; outcome = Ended (s .best) } ≡ singleFit m e weights
+unfolding singleFit
+ended m e weights epsilon s he hn hs =
+    ap (answered 0 m) (hs ∙ ap (λ x. fitOf m x weights) he) ∙ ap (λ x. answered x m (fitOf m (inForce m e) weights)) (hn ∙ ap (λ x. gridRefusal m x 1 weights) he)

@@ -1,0 +1,4 @@
+pub mod Refusals
+pub mod Rows
+pub mod Search
+pub mod Runs
