@@ -1,7 +1,7 @@
 // Lines out of a stream of bytes that comes in chunks, each answered when its newline comes.
-use crate::replies;
-use crate::replies::Reply;
-use crate::requests;
+use crate::kinds;
+use protocol::replies;
+use protocol::replies::Reply;
 
 // How many bytes of the current line have come, whether it has more than a line may have, how many
 // bytes of answers wait in `out`, and whether the input is over.
@@ -46,7 +46,7 @@ fn reply_to(line: &[u8], xs: &mut [f64], s: State) -> Reply {
     if line.len() < n {
         return Reply::Bad;
     }
-    requests::answer(&line[..n], xs)
+    kinds::answer(&line[..n], xs)
 }
 
 // The line is whole.

@@ -1,14 +1,8 @@
 // Answers requests, one a line, from standard input to standard output, so that every function of
 // the libraries can be reached from a shell. Thin: the libraries do the work, and are proved; of
 // this program it is proved that it is safe and ends on any input.
-mod fields; // fields.rt: the words of a request
-mod leaves; // leaves.rt: the number leaves
+mod kinds; // kinds.rt: which kind of request a line is
 mod lines; // lines.rt: lines out of a stream of bytes
-mod orders; // orders.rt: moments and their orders
-mod replies; // replies.rt: the answers, and how each is printed
-mod requests; // requests.rt: which request a line is
-mod steps; // steps.rt: one step of the fit
-mod walks; // walks.rt: a walk of the fit
 
 use lines::State;
 

@@ -1,0 +1,24 @@
+// Which kind of request a line is. A kind to which the line does not belong replies `Bad`, and the
+// next is asked. Answers that are lists are left in xs.
+use number_requests::leaves;
+use number_requests::orders;
+use protocol::replies;
+use protocol::replies::Reply;
+use step_requests::steps;
+use step_requests::walks;
+
+pub(crate) fn answer(s: &[u8], xs: &mut [f64]) -> Reply {
+    let r = leaves::answer(s);
+    if !replies::is_bad(r) {
+        return r;
+    }
+    let r = orders::answer(s, xs);
+    if !replies::is_bad(r) {
+        return r;
+    }
+    let r = steps::answer(s);
+    if !replies::is_bad(r) {
+        return r;
+    }
+    walks::answer(s)
+}

@@ -1,0 +1,2 @@
+-- Laws of the module `orders`.
+pub mod Written

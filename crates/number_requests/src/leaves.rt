@@ -1,0 +1,145 @@
+// Requests of the number leaves. The function of each takes the request and the place after its
+// name.
+ghost use Rattle.protocol.specs.Replies.{Unlisted};
+use protocol::fields;
+use protocol::fields::Fraction;
+use protocol::replies;
+use protocol::replies::Reply;
+use text::Instant;
+use text::Number;
+
+pub fn answer(s: &[u8]) -> Reply
+    ensures { λ r. ⌜ Unlisted r ⌝ }
+{
+    let r = of_numbers(s);
+    if !replies::is_bad(r) {
+        return r;
+    }
+    of_casts(s)
+}
+
+fn of_numbers(s: &[u8]) -> Reply
+    ensures { λ r. ⌜ Unlisted r ⌝ }
+{
+    if fields::begins(s, b"sqrt ") {
+        return sqrt(s, 4);
+    }
+    if fields::begins(s, b"abs ") {
+        return abs(s, 3);
+    }
+    if fields::begins(s, b"larger ") {
+        return larger(s, 6);
+    }
+    if fields::begins(s, b"powi ") {
+        return powi(s, 4);
+    }
+    Reply::Bad
+}
+
+fn of_casts(s: &[u8]) -> Reply
+    ensures { λ r. ⌜ Unlisted r ⌝ }
+{
+    if fields::begins(s, b"is_finite ") {
+        return is_finite(s, 9);
+    }
+    if fields::begins(s, b"as_i64 ") {
+        return as_i64(s, 6);
+    }
+    if fields::begins(s, b"as_usize ") {
+        return as_usize(s, 8);
+    }
+    if fields::begins(s, b"i64_as_f64 ") {
+        return i64_as_f64(s, 10);
+    }
+    Reply::Bad
+}
+
+fn sqrt(s: &[u8], at: usize) -> Reply
+    ensures { λ r. ⌜ Unlisted r ⌝ }
+{
+    let mut v = [0.0f64; 1];
+    if !fields::read_rest(s, at, &mut v) {
+        return Reply::Bad;
+    }
+    Reply::Fraction(root::sqrt(v[0]))
+}
+
+fn abs(s: &[u8], at: usize) -> Reply
+    ensures { λ r. ⌜ Unlisted r ⌝ }
+{
+    let mut v = [0.0f64; 1];
+    if !fields::read_rest(s, at, &mut v) {
+        return Reply::Bad;
+    }
+    Reply::Fraction(number::abs(v[0]))
+}
+
+fn is_finite(s: &[u8], at: usize) -> Reply
+    ensures { λ r. ⌜ Unlisted r ⌝ }
+{
+    let mut v = [0.0f64; 1];
+    if !fields::read_rest(s, at, &mut v) {
+        return Reply::Bad;
+    }
+    if number::is_finite(v[0]) {
+        return Reply::Natural(1);
+    }
+    Reply::Natural(0)
+}
+
+fn as_i64(s: &[u8], at: usize) -> Reply
+    ensures { λ r. ⌜ Unlisted r ⌝ }
+{
+    let mut v = [0.0f64; 1];
+    if !fields::read_rest(s, at, &mut v) {
+        return Reply::Bad;
+    }
+    Reply::Instant(number::as_i64(v[0]))
+}
+
+fn as_usize(s: &[u8], at: usize) -> Reply
+    ensures { λ r. ⌜ Unlisted r ⌝ }
+{
+    let mut v = [0.0f64; 1];
+    if !fields::read_rest(s, at, &mut v) {
+        return Reply::Bad;
+    }
+    Reply::Natural(number::as_usize(v[0]) as u64)
+}
+
+fn i64_as_f64(s: &[u8], at: usize) -> Reply
+    ensures { λ r. ⌜ Unlisted r ⌝ }
+{
+    let Instant::Is(n, k) = fields::read_next_instant(s, at) else {
+        return Reply::Bad;
+    };
+    if k != s.len() {
+        return Reply::Bad;
+    }
+    Reply::Fraction(number::i64_as_f64(n))
+}
+
+fn larger(s: &[u8], at: usize) -> Reply
+    ensures { λ r. ⌜ Unlisted r ⌝ }
+{
+    let mut v = [0.0f64; 2];
+    if !fields::read_rest(s, at, &mut v) {
+        return Reply::Bad;
+    }
+    Reply::Fraction(number::larger(v[0], v[1]))
+}
+
+fn powi(s: &[u8], at: usize) -> Reply
+    ensures { λ r. ⌜ Unlisted r ⌝ }
+{
+    let Fraction::Is(x, k) = fields::read_next_fraction(s, at) else {
+        return Reply::Bad;
+    };
+    let Number::Is(n, e) = fields::read_next_natural(s, k, 16) else {
+        return Reply::Bad;
+    };
+    if e != s.len() {
+        return Reply::Bad;
+    }
+    Reply::Fraction(number::powi(x, n as usize))
+}

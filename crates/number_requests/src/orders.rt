@@ -1,0 +1,103 @@
+// Requests of moments. The function of each takes the request and the place after its name. A list
+// longer than 16 is read, and refused by the library.
+ghost use Rattle.protocol.specs.Replies.{ListedIn, Unlisted};
+ghost use lib.ListN.{length};
+use moments::Centred;
+use moments::Params;
+use moments::Remade;
+use protocol::fields;
+use protocol::fields::Fraction;
+use protocol::fields::List;
+use protocol::replies::Reply;
+use text::Number;
+
+// An answer that is a list is left in xs.
+pub fn answer(s: &[u8], xs: &mut [f64]) -> Reply
+    ensures { λ r. ⌜ ListedIn (length (now (xs .entry))) r ⌝ }
+{
+    if fields::begins(s, b"get_moments ") {
+        return get_moments(s, 11);
+    }
+    if fields::begins(s, b"centered_moment ") {
+        return centered_moment(s, 15);
+    }
+    if fields::begins(s, b"raw_moment ") {
+        return raw_moment(s, 10, xs);
+    }
+    Reply::Bad
+}
+
+fn get_moments(s: &[u8], at: usize) -> Reply
+    ensures { λ r. ⌜ Unlisted r ⌝ }
+{
+    let mut v = [0.0f64; 5];
+    if !fields::read_rest(s, at, &mut v) {
+        return Reply::Bad;
+    }
+    Reply::Moments(moments::get_moments(Params {
+        mu_1: v[0],
+        mu_2: v[1],
+        sigma_1: v[2],
+        sigma_2: v[3],
+        p_1: v[4],
+    }))
+}
+
+// n counts the list; 17 of it are enough to be refused.
+fn centred_reply(m: &[f64], n: usize, order: usize) -> Reply
+    ensures { λ r. ⌜ Unlisted r ⌝ }
+{
+    let k = fields::least(n, m.len());
+    let r = moments::centered_moment(&m[..k], order);
+    match r {
+        Centred::Refused(number) => Reply::Refused(number),
+        Centred::Value(x) => Reply::Fraction(x),
+    }
+}
+
+fn centered_moment(s: &[u8], at: usize) -> Reply
+    ensures { λ r. ⌜ Unlisted r ⌝ }
+{
+    let Number::Is(order, a) = fields::read_next_natural(s, at, u64::MAX) else {
+        return Reply::Bad;
+    };
+    let mut m = [0.0f64; 17];
+    let List::Is(n, e) = fields::read_next_list(s, a, &mut m) else {
+        return Reply::Bad;
+    };
+    if e != s.len() {
+        return Reply::Bad;
+    }
+    centred_reply(&m, n, order as usize)
+}
+
+fn raw_reply(c: &[f64], n: usize, mean: f64, room: usize, xs: &mut [f64]) -> Reply
+    ensures { λ r. ⌜ ListedIn (length (now (xs .entry))) r ⌝ }
+{
+    let k = fields::least(n, c.len());
+    let places = fields::least(room, xs.len());
+    let r = moments::raw_moment(&c[..k], mean, &mut xs[..places]);
+    match r {
+        Remade::Unwritten(number) => Reply::Refused(number),
+        Remade::Written(count) => Reply::Listed(count),
+    }
+}
+
+fn raw_moment(s: &[u8], at: usize, xs: &mut [f64]) -> Reply
+    ensures { λ r. ⌜ ListedIn (length (now (xs .entry))) r ⌝ }
+{
+    let Number::Is(room, a) = fields::read_next_natural(s, at, u64::MAX) else {
+        return Reply::Bad;
+    };
+    let Fraction::Is(mean, b) = fields::read_next_fraction(s, a) else {
+        return Reply::Bad;
+    };
+    let mut c = [0.0f64; 17];
+    let List::Is(n, e) = fields::read_next_list(s, b, &mut c) else {
+        return Reply::Bad;
+    };
+    if e != s.len() {
+        return Reply::Bad;
+    }
+    raw_reply(&c, n, mean, room as usize, xs)
+}

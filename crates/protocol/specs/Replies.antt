@@ -1,0 +1,20 @@
+-- How many fractions a reply may have in the list beside it. Definitions only.
+use Prim.Native.Nat.{ℕ, _≤_}
+use Rattle.protocol.specs.declared.replies.Reply as reply
+
+-- a reply that is a list has at most n fractions
+abbrev pub ListedIn : ℕ → reply.Reply → Type 0
+ListedIn n reply.the-variants.Bad = Unit {0}
+ListedIn n (reply.the-variants.Refused v) = Unit {0}
+ListedIn n (reply.the-variants.Fraction v) = Unit {0}
+ListedIn n (reply.the-variants.Natural v) = Unit {0}
+ListedIn n (reply.the-variants.Instant v) = Unit {0}
+ListedIn n (reply.the-variants.Moments v) = Unit {0}
+ListedIn n (reply.the-variants.Parameters v) = Unit {0}
+ListedIn n reply.the-variants.Inadmissible = Unit {0}
+ListedIn n (reply.the-variants.Walked v) = Unit {0}
+ListedIn n (reply.the-variants.Listed k) = k ≤ n
+
+-- a reply that has nothing in the list beside it
+abbrev pub Unlisted : reply.Reply → Type 0
+Unlisted r = (n : ℕ) → ListedIn n r

@@ -1,0 +1,125 @@
+// The words of a request.
+ghost use Prim.Native.Nat.{_≤_};
+ghost use mathlib.Core.Path.{_≡_};
+ghost use lib.ListN.{drop, length};
+ghost use Rattle.text.specs.Decode.{word};
+ghost use Rattle.text.specs.Meaning.{instantIs, numberIs};
+ghost use Rattle.protocol.specs.Words.{aFraction, entries, fractionIs, isGot, isRest, listIs, nextFraction, nextInstant, nextList, nextNatural};
+use text::Instant;
+use text::Next;
+use text::Number;
+
+// Whether a request begins with a name, which is given with the blank after it.
+pub fn begins(s: &[u8], name: &[u8]) -> bool
+    ensures { λ r. ⌜ r ≡ isGot (word (now (name .entry)) (now (s .entry))) ⌝ }
+{
+    let n = text::read_word(s, 0, name);
+    match n {
+        Next::At(_) => true,
+        Next::No => false,
+    }
+}
+
+// A fraction and the place after it.
+pub enum Fraction {
+    Is(f64, usize),
+    No,
+}
+
+pub fn read_fraction(s: &[u8], at: usize) -> Fraction
+    ensures { λ r. ⌜ aFraction (drop at (now (s .entry))) ≡ fractionIs (now (s .entry)) r ⌝ }
+{
+    let Number::Is(bits, k) = text::read_hex(s, at) else {
+        return Fraction::No;
+    };
+    Fraction::Is(text::float_of(bits), k)
+}
+
+// The fraction after a blank.
+pub fn read_next_fraction(s: &[u8], at: usize) -> Fraction
+    ensures { λ r. ⌜ nextFraction (drop at (now (s .entry))) ≡ fractionIs (now (s .entry)) r ⌝ }
+{
+    let Next::At(k) = text::read_word(s, at, b" ") else {
+        return Fraction::No;
+    };
+    read_fraction(s, k)
+}
+
+// The whole number up to `limit` after a blank.
+pub fn read_next_natural(s: &[u8], at: usize, limit: u64) -> Number
+    ensures { λ r. ⌜ nextNatural limit (drop at (now (s .entry))) ≡ numberIs (now (s .entry)) r ⌝ }
+{
+    let Next::At(k) = text::read_word(s, at, b" ") else {
+        return Number::No;
+    };
+    text::read_natural(s, k, limit)
+}
+
+// The instant after a blank.
+pub fn read_next_instant(s: &[u8], at: usize) -> Instant
+    ensures { λ r. ⌜ nextInstant (drop at (now (s .entry))) ≡ instantIs (now (s .entry)) r ⌝ }
+{
+    let Next::At(k) = text::read_word(s, at, b" ") else {
+        return Instant::No;
+    };
+    text::read_instant(s, k)
+}
+
+// Reads the fractions that are the rest of a request, as many as xs has places, each after a blank,
+// and answers whether they are.
+pub fn read_rest(s: &[u8], at: usize, xs: &mut [f64]) -> bool
+    ensures { λ r. ⌜ r ≡ isRest (entries (length (now (xs .entry))) (drop at (now (s .entry)))) ⌝ }
+{
+    let n = xs.len();
+    let mut k = at;
+    let mut i = 0;
+    while i < n {
+        let Fraction::Is(x, e) = read_next_fraction(s, k) else {
+            return false;
+        };
+        xs[i] = x;
+        k = e;
+        i += 1;
+    }
+    s.len() <= k
+}
+
+// How many entries a list has, and the place after it.
+pub enum List {
+    Is(usize, usize),
+    No,
+}
+
+// The list of fractions after a blank: how many, then so many. Those that have no place in xs are
+// read and left out.
+pub fn read_next_list(s: &[u8], at: usize, xs: &mut [f64]) -> List
+    ensures { λ r. ⌜ nextList (drop at (now (s .entry))) ≡ listIs (now (s .entry)) r ⌝ }
+{
+    let Number::Is(n, a) = read_next_natural(s, at, u64::MAX) else {
+        return List::No;
+    };
+    let mut k = a;
+    let mut i: u64 = 0;
+    while i < n {
+        let Fraction::Is(x, e) = read_next_fraction(s, k) else {
+            return List::No;
+        };
+        keep(xs, i, x);
+        k = e;
+        i += 1;
+    }
+    List::Is(n as usize, k)
+}
+
+fn keep(xs: &mut [f64], i: u64, x: f64) {
+    let at = i as usize;
+    if at < xs.len() {
+        xs[at] = x;
+    }
+}
+
+pub fn least(a: usize, b: usize) -> usize
+    ensures { λ r. ⌜ (r ≤ a) × (r ≤ b) ⌝ }
+{
+    if a < b { a } else { b }
+}

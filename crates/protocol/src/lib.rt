@@ -1,0 +1,4 @@
+// The line protocol: the words of a request, the replies, and how each is printed. Each crate of
+// kinds of requests stands on this one.
+pub mod fields; // fields.rt: the words of a request
+pub mod replies; // replies.rt: the replies, and how each is printed

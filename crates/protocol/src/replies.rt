@@ -1,0 +1,184 @@
+// The replies, and how each is printed.
+ghost use mathlib.Core.Bool.{true};
+ghost use mathlib.Core.Path.{_≡_};
+ghost use lib.ListN.{length};
+ghost use Rattle.protocol.specs.Places.{After};
+ghost use Rattle.protocol.specs.declared.replies.Reply.the-variants.{Bad};
+use crate::fields;
+use moments::Five;
+use moments::Params;
+
+// How a walk ended, and the state after it.
+pub struct Report {
+    pub count: u64,
+    pub reason: u64,
+    pub parameters: Params,
+    pub error: f64,
+    pub new_moments: Five,
+}
+
+pub enum Reply {
+    // the line is no request
+    Bad,
+    // document 01's number
+    Refused(u64),
+    Fraction(f64),
+    Natural(u64),
+    Instant(i64),
+    Moments(Five),
+    Parameters(Params),
+    // of a step
+    Inadmissible,
+    Walked(Report),
+    // so many fractions, which stand in a list beside the reply
+    Listed(usize),
+}
+
+pub fn is_bad(r: Reply) -> bool
+    ensures { λ yes. ⌜ (yes ≡ true → r ≡ Bad) ⌝ }
+{
+    match r {
+        Reply::Bad => true,
+        _ => false,
+    }
+}
+
+pub fn put_bad(out: &mut [u8], at: usize) -> usize
+    ensures { λ place. ⌜ After (length (now (out .entry))) at place ⌝ }
+{
+    put_text(out, at, b"bad\n")
+}
+
+// Puts an answer with its newline, and answers the place after it.
+pub fn put(out: &mut [u8], at: usize, r: Reply, xs: &[f64]) -> usize
+    ensures { λ place. ⌜ After (length (now (out .entry))) at place ⌝ }
+{
+    let k = put_words(out, at, r, xs);
+    put_text(out, k, b"\n")
+}
+
+fn put_words(out: &mut [u8], at: usize, r: Reply, xs: &[f64]) -> usize
+    ensures { λ place. ⌜ After (length (now (out .entry))) at place ⌝ }
+{
+    match r {
+        Reply::Bad => put_text(out, at, b"bad"),
+        Reply::Refused(n) => put_refused(out, at, n),
+        Reply::Inadmissible => put_text(out, at, b"inadmissible"),
+        _ => put_ok(out, at, r, xs),
+    }
+}
+
+fn put_refused(out: &mut [u8], at: usize, n: u64) -> usize
+    ensures { λ place. ⌜ After (length (now (out .entry))) at place ⌝ }
+{
+    let k = put_text(out, at, b"refused");
+    put_natural(out, k, n)
+}
+
+// The word that all other replies begin with.
+fn put_ok(out: &mut [u8], at: usize, r: Reply, xs: &[f64]) -> usize
+    ensures { λ place. ⌜ After (length (now (out .entry))) at place ⌝ }
+{
+    let k = put_text(out, at, b"ok");
+    put_values(out, k, r, xs)
+}
+
+// The values of a reply, each after a blank.
+fn put_values(out: &mut [u8], at: usize, r: Reply, xs: &[f64]) -> usize
+    ensures { λ place. ⌜ After (length (now (out .entry))) at place ⌝ }
+{
+    match r {
+        Reply::Moments(m) => put_moments(out, at, m),
+        Reply::Parameters(p) => put_params(out, at, p),
+        Reply::Walked(w) => put_report(out, at, w),
+        Reply::Listed(n) => put_listed(out, at, n, xs),
+        _ => put_value(out, at, r),
+    }
+}
+
+// A reply that is one value; any other is not put. Apart from put_values, for two short proofs cost
+// less than one long.
+fn put_value(out: &mut [u8], at: usize, r: Reply) -> usize
+    ensures { λ place. ⌜ After (length (now (out .entry))) at place ⌝ }
+{
+    match r {
+        Reply::Fraction(x) => put_fraction(out, at, x),
+        Reply::Natural(n) => put_natural(out, at, n),
+        Reply::Instant(i) => put_instant(out, at, i),
+        _ => at,
+    }
+}
+
+fn put_moments(out: &mut [u8], at: usize, m: Five) -> usize
+    ensures { λ place. ⌜ After (length (now (out .entry))) at place ⌝ }
+{
+    let b = put_fraction(out, at, m.m_1);
+    let c = put_fraction(out, b, m.m_2);
+    let d = put_fraction(out, c, m.m_3);
+    let e = put_fraction(out, d, m.m_4);
+    put_fraction(out, e, m.m_5)
+}
+
+fn put_params(out: &mut [u8], at: usize, p: Params) -> usize
+    ensures { λ place. ⌜ After (length (now (out .entry))) at place ⌝ }
+{
+    let b = put_fraction(out, at, p.mu_1);
+    let c = put_fraction(out, b, p.mu_2);
+    let d = put_fraction(out, c, p.sigma_1);
+    let e = put_fraction(out, d, p.sigma_2);
+    put_fraction(out, e, p.p_1)
+}
+
+fn put_report(out: &mut [u8], at: usize, w: Report) -> usize
+    ensures { λ place. ⌜ After (length (now (out .entry))) at place ⌝ }
+{
+    let a = put_natural(out, at, w.count);
+    let b = put_natural(out, a, w.reason);
+    let parameters = w.parameters;
+    let c = put_params(out, b, parameters);
+    let d = put_fraction(out, c, w.error);
+    let new_moments = w.new_moments;
+    put_moments(out, d, new_moments)
+}
+
+// How many, then so many fractions.
+fn put_listed(out: &mut [u8], at: usize, n: usize, xs: &[f64]) -> usize
+    ensures { λ place. ⌜ After (length (now (out .entry))) at place ⌝ }
+{
+    let mut k = put_natural(out, at, n as u64);
+    let most = fields::least(n, xs.len());
+    let mut i = 0;
+    while i < most {
+        k = put_fraction(out, k, xs[i]);
+        i += 1;
+    }
+    k
+}
+
+fn put_fraction(out: &mut [u8], at: usize, x: f64) -> usize
+    ensures { λ place. ⌜ After (length (now (out .entry))) at place ⌝ }
+{
+    let k = put_text(out, at, b" ");
+    text::put_hex(out, k, text::bits_of(x))
+}
+
+fn put_natural(out: &mut [u8], at: usize, n: u64) -> usize
+    ensures { λ place. ⌜ After (length (now (out .entry))) at place ⌝ }
+{
+    let k = put_text(out, at, b" ");
+    text::put_decimal(out, k, n)
+}
+
+fn put_instant(out: &mut [u8], at: usize, i: i64) -> usize
+    ensures { λ place. ⌜ After (length (now (out .entry))) at place ⌝ }
+{
+    let k = put_text(out, at, b" ");
+    text::put_instant(out, k, i)
+}
+
+// Of the contract of text::put no more is kept than where the place after may stand.
+fn put_text(out: &mut [u8], at: usize, w: &[u8]) -> usize
+    ensures { λ place. ⌜ After (length (now (out .entry))) at place ⌝ }
+{
+    text::put(out, at, w)
+}

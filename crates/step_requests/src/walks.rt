@@ -1,0 +1,132 @@
+// The request of a walk. A list longer than 16 is read, and refused by the library.
+ghost use Rattle.protocol.specs.Replies.{Unlisted};
+use moments::Five;
+use moments::Params;
+use protocol::fields;
+use protocol::fields::Fraction;
+use protocol::fields::List;
+use protocol::replies::Reply;
+use protocol::replies::Report;
+use text::Number;
+use walk::M2N;
+use walk::Outcome;
+use walk::Walked;
+
+pub fn answer(s: &[u8]) -> Reply
+    ensures { λ r. ⌜ Unlisted r ⌝ }
+{
+    if fields::begins(s, b"walk ") {
+        return walk(s, 4);
+    }
+    Reply::Bad
+}
+
+// Where a walk starts and when it settles: mu_2, p_1 and epsilon; and the place after them.
+enum Start {
+    At(f64, f64, f64, usize),
+    No,
+}
+
+fn read_start(s: &[u8], at: usize) -> Start {
+    let Fraction::Is(mu_2, a) = fields::read_next_fraction(s, at) else {
+        return Start::No;
+    };
+    let Fraction::Is(p_1, b) = fields::read_next_fraction(s, a) else {
+        return Start::No;
+    };
+    let Fraction::Is(epsilon, c) = fields::read_next_fraction(s, b) else {
+        return Start::No;
+    };
+    Start::At(mu_2, p_1, epsilon, c)
+}
+
+fn parameters_of(v: [f64; 11]) -> Params {
+    Params {
+        mu_1: v[0],
+        mu_2: v[1],
+        sigma_1: v[2],
+        sigma_2: v[3],
+        p_1: v[4],
+    }
+}
+
+fn moments_of(v: [f64; 11]) -> Five {
+    Five {
+        m_1: v[6],
+        m_2: v[7],
+        m_3: v[8],
+        m_4: v[9],
+        m_5: v[10],
+    }
+}
+
+fn reply(w: Walked) -> Reply
+    ensures { λ r. ⌜ Unlisted r ⌝ }
+{
+    let m = w.state;
+    let o = w.outcome;
+    match o {
+        Outcome::Refused(number) => Reply::Refused(number),
+        Outcome::Ended(count, reason) => report(m, count, reason),
+    }
+}
+
+fn report(m: M2N, count: usize, reason: u64) -> Reply
+    ensures { λ r. ⌜ Unlisted r ⌝ }
+{
+    let parameters = m.parameters;
+    let new_moments = m.new_moments;
+    Reply::Walked(Report {
+        count: count as u64,
+        reason: reason,
+        parameters: parameters,
+        error: m.error,
+        new_moments: new_moments,
+    })
+}
+
+// What follows the moments.
+fn walk_from(s: &[u8], at: usize, variant: u64, m: [f64; 16], n: usize) -> Reply
+    ensures { λ r. ⌜ Unlisted r ⌝ }
+{
+    let Start::At(mu_2, p_1, epsilon, a) = read_start(s, at) else {
+        return Reply::Bad;
+    };
+    let Number::Is(max_iter, b) = fields::read_next_natural(s, a, u64::MAX) else {
+        return Reply::Bad;
+    };
+    // the state: parameters, error, new moments
+    let mut v = [0.0f64; 11];
+    if !fields::read_rest(s, b, &mut v) {
+        return Reply::Bad;
+    }
+    reply(walk::iterate_from(
+        M2N {
+            moments: m,
+            len: n,
+            epsilon: epsilon,
+            factor: 0.0,
+            n_runs: 1,
+            variant: variant as usize,
+            max_iter: max_iter as usize,
+            new_moments: moments_of(v),
+            parameters: parameters_of(v),
+            error: v[5],
+        },
+        mu_2,
+        p_1,
+    ))
+}
+
+fn walk(s: &[u8], at: usize) -> Reply
+    ensures { λ r. ⌜ Unlisted r ⌝ }
+{
+    let Number::Is(variant, a) = fields::read_next_natural(s, at, u64::MAX) else {
+        return Reply::Bad;
+    };
+    let mut m = [0.0f64; 16];
+    let List::Is(n, b) = fields::read_next_list(s, a, &mut m) else {
+        return Reply::Bad;
+    };
+    walk_from(s, b, variant, m, n)
+}
