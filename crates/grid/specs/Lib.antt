@@ -1,3 +1,4 @@
+pub mod Figures
 pub mod Refusals
 pub mod Rows
 pub mod Search

@@ -87,13 +87,14 @@ stopped (Admitted r ∷ t) = stopped t
 abbrev pub reasonOf : ℕ → List Step → ℕ
 reasonOf limit t = cond (eqb (length t) limit) 1 (stopped t)
 
--- the number of the refusal, 0 for none: 3, variant not 1 or 2; 1, fewer than 4 moments (variant 2: 5); 2, more than 16; 7, weight not at least 0 and below 1
+-- how many moments the variant's step reads
 abbrev pub neededBy : ℕ → ℕ
 neededBy variant = cond (eqb variant 1) 4 5
 
 abbrev pub laterRefusal : ℕ → ℕ → Float → ℕ
 laterRefusal len needed p = cond (ltb len needed) 1 (cond (ltb 16 len) 2 (cond (le nought p && lt p one) 0 7))
 
+-- the number of the refusal, 0 for none: 3, variant not 1 or 2; 1, fewer than 4 moments (variant 2: 5); 2, more than 16; 7, weight not at least 0 and below 1
 unfoldable pub walkRefusal : M2N → Float → ℕ
 walkRefusal m p = cond (not (eqb (m .variant) 1 || eqb (m .variant) 2)) 3 (laterRefusal (m .len) (neededBy (m .variant)) p)
 
