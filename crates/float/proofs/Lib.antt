@@ -3,6 +3,7 @@ pub mod Comparing
 pub mod Exponents
 pub mod Fits
 pub mod Floor
+pub mod Order
 pub mod Patterns
 pub mod Powers
 pub mod Product

@@ -1,9 +1,10 @@
 // The walk of a fit: steps from a starting mean and weight until one settles, is inadmissible, or the
 // step limit is reached. The best parameters met on the way are kept.
 ghost use mathlib.Core.Path.{_≡_};
-ghost use Prim.Native.Nat.{_≤_, min};
+ghost use mathlib.Core.Bool.{true};
+ghost use Prim.Native.Nat.{_≤_, _<_, min};
 ghost use Rattle.moments.specs.Figures.{listed};
-ghost use Rattle.walk.specs.Parts.{fitAfter, reasonFor, withFitOf};
+ghost use Rattle.walk.specs.Parts.{Turned, fitAfter, reasonFor, withFitOf};
 ghost use Rattle.walk.specs.Trail.{stepFor};
 ghost use Rattle.walk.specs.Walk.{fiveOf, laterRefusal, squares, walkOf, walkRefusal};
 use moments::Five;
@@ -29,6 +30,19 @@ struct Fit {
     new_moments: Five,
     parameters: Params,
     error: f64,
+}
+
+// A pair of the walk, and how many steps led to it.
+struct Seen {
+    mu: f64,
+    p: f64,
+    at: usize,
+}
+
+// How many steps are taken, and the pair to look out for.
+struct Turn {
+    count: usize,
+    seen: Seen,
 }
 
 // Refused by document 01's number; or ended after so many steps, for the reason 1 spent, 2 settled, 3
@@ -167,6 +181,53 @@ fn reason(count: usize, max_iter: usize, stopped: u64) -> u64
     stopped
 }
 
+// Whether two numbers are one, bit for bit; a NaN is never.
+fn same(x: f64, y: f64) -> bool
+    ensures { λ r. ⌜ (r ≡ true → x ≡ y) ⌝ }
+{
+    if x == y {
+        return f64::to_bits(x) == f64::to_bits(y);
+    }
+    false
+}
+
+// A walk that comes back to a pair it has seen goes round from there on, and going round changes
+// nothing more: as many whole rounds as the limit leaves are counted and not walked. The pair looked
+// out for is that of the last power of two of steps, so a round of any length is found.
+fn count_rounds(count: usize, max_iter: usize, mu: f64, p: f64, seen: Seen) -> Turn
+    requires { ⌜ (seen .at < count) × (count ≤ «max_iter») ⌝ }
+    ensures { λ r. ⌜ Turned count «max_iter» mu p seen r ⌝ }
+{
+    if same(mu, seen.mu) {
+        if same(p, seen.p) {
+            let round = count - seen.at;
+            let to = count + (max_iter - count) / round * round;
+            return Turn {
+                count: to,
+                seen: Seen {
+                    mu: mu,
+                    p: p,
+                    at: to,
+                },
+            };
+        }
+    }
+    if seen.at <= count / 2 {
+        return Turn {
+            count: count,
+            seen: Seen {
+                mu: mu,
+                p: p,
+                at: count,
+            },
+        };
+    }
+    Turn {
+        count: count,
+        seen: seen,
+    }
+}
+
 // The walk of a state that is not refused. `max_iter` is the budget.
 fn walk(m: M2N, mu_2: f64, p_1: f64) -> Walked
     requires { ⌜ 0 ≡ walkRefusal m p_1 ⌝ }
@@ -184,6 +245,11 @@ fn walk(m: M2N, mu_2: f64, p_1: f64) -> Walked
     let mut mu = mu_2;
     let mut p = p_1;
     let mut count = 0;
+    let mut seen = Seen {
+        mu: mu_2,
+        p: p_1,
+        at: 0,
+    };
     while count < max_iter {
         let s = stepped(m.variant, a, mu, p);
         count += 1;
@@ -202,6 +268,9 @@ fn walk(m: M2N, mu_2: f64, p_1: f64) -> Walked
         }
         mu = r.mu_2;
         p = r.p_1;
+        let t = count_rounds(count, max_iter, mu, p, seen);
+        count = t.count;
+        seen = t.seen;
     }
     Walked {
         state: with_fit(m, f),
