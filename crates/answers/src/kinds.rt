@@ -1,5 +1,7 @@
 // Which kind of request a line is. A kind to which the line does not belong replies `Bad`, and the
-// next is asked. Answers that are lists are left in xs.
+// next is asked. Weights are read into xs, and answers that are lists left there.
+use fit_requests::runs;
+use fit_requests::searches;
 use number_requests::leaves;
 use number_requests::orders;
 use protocol::replies;
@@ -20,5 +22,13 @@ pub(crate) fn answer(s: &[u8], xs: &mut [f64]) -> Reply {
     if !replies::is_bad(r) {
         return r;
     }
-    walks::answer(s)
+    let r = walks::answer(s);
+    if !replies::is_bad(r) {
+        return r;
+    }
+    let r = searches::answer(s, xs);
+    if !replies::is_bad(r) {
+        return r;
+    }
+    runs::answer(s, xs)
 }

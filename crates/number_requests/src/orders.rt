@@ -79,7 +79,7 @@ fn raw_reply(c: &[f64], n: usize, mean: f64, room: usize, xs: &mut [f64]) -> Rep
     let r = moments::raw_moment(&c[..k], mean, &mut xs[..places]);
     match r {
         Remade::Unwritten(number) => Reply::Refused(number),
-        Remade::Written(count) => Reply::Listed(count),
+        Remade::Written(count) => Reply::Listed(count, count),
     }
 }
 

@@ -2,7 +2,7 @@
 use Prim.Native.Nat.{ℕ, _≤_}
 use Rattle.protocol.specs.declared.replies.Reply as reply
 
--- a reply that is a list has at most n fractions
+-- a reply that is a list has at most n fractions in all
 abbrev pub ListedIn : ℕ → reply.Reply → Type 0
 ListedIn n reply.the-variants.Bad = Unit {0}
 ListedIn n (reply.the-variants.Refused v) = Unit {0}
@@ -13,7 +13,8 @@ ListedIn n (reply.the-variants.Moments v) = Unit {0}
 ListedIn n (reply.the-variants.Parameters v) = Unit {0}
 ListedIn n reply.the-variants.Inadmissible = Unit {0}
 ListedIn n (reply.the-variants.Walked v) = Unit {0}
-ListedIn n (reply.the-variants.Listed k) = k ≤ n
+ListedIn n (reply.the-variants.Searched v) = Unit {0}
+ListedIn n (reply.the-variants.Listed count k) = k ≤ n
 
 -- a reply that has nothing in the list beside it
 abbrev pub Unlisted : reply.Reply → Type 0

@@ -3,7 +3,7 @@ ghost use Prim.Native.Nat.{_≤_};
 ghost use mathlib.Core.Path.{_≡_};
 ghost use lib.ListN.{drop, length};
 ghost use Rattle.text.specs.Decode.{word};
-ghost use Rattle.text.specs.Meaning.{instantIs, numberIs};
+ghost use Rattle.text.specs.Meaning.{instantIs, nextIs, numberIs};
 ghost use Rattle.protocol.specs.Words.{aFraction, entries, fractionIs, isGot, isRest, listIs, nextFraction, nextInstant, nextList, nextNatural};
 use text::Instant;
 use text::Next;
@@ -65,22 +65,31 @@ pub fn read_next_instant(s: &[u8], at: usize) -> Instant
     text::read_instant(s, k)
 }
 
-// Reads the fractions that are the rest of a request, as many as xs has places, each after a blank,
-// and answers whether they are.
-pub fn read_rest(s: &[u8], at: usize, xs: &mut [f64]) -> bool
-    ensures { λ r. ⌜ r ≡ isRest (entries (length (now (xs .entry))) (drop at (now (s .entry)))) ⌝ }
+// Reads fractions, as many as xs has places, each after a blank, and answers the place after them.
+pub fn read_next_fractions(s: &[u8], at: usize, xs: &mut [f64]) -> Next
+    ensures { λ r. ⌜ entries (length (now (xs .entry))) (drop at (now (s .entry))) ≡ nextIs (now (s .entry)) r ⌝ }
 {
     let n = xs.len();
     let mut k = at;
     let mut i = 0;
     while i < n {
         let Fraction::Is(x, e) = read_next_fraction(s, k) else {
-            return false;
+            return Next::No;
         };
         xs[i] = x;
         k = e;
         i += 1;
     }
+    Next::At(k)
+}
+
+// The same, where they are the rest of a request: answers whether they are.
+pub fn read_rest(s: &[u8], at: usize, xs: &mut [f64]) -> bool
+    ensures { λ r. ⌜ r ≡ isRest (entries (length (now (xs .entry))) (drop at (now (s .entry)))) ⌝ }
+{
+    let Next::At(k) = read_next_fractions(s, at, xs) else {
+        return false;
+    };
     s.len() <= k
 }
 

@@ -17,6 +17,17 @@ pub struct Report {
     pub new_moments: Five,
 }
 
+// How a search ended: its row, if there is one, and the state after it.
+pub struct Search {
+    pub is_row: bool,
+    pub row: Params,
+    pub row_error: f64,
+    pub parameters: Params,
+    pub error: f64,
+    pub epsilon: f64,
+    pub new_moments: Five,
+}
+
 pub enum Reply {
     // the line is no request
     Bad,
@@ -30,8 +41,9 @@ pub enum Reply {
     // of a step
     Inadmissible,
     Walked(Report),
-    // so many fractions, which stand in a list beside the reply
-    Listed(usize),
+    Searched(Search),
+    // so many entries, of so many fractions in all, which stand in a list beside the reply
+    Listed(usize, usize),
 }
 
 pub fn is_bad(r: Reply) -> bool
@@ -91,7 +103,8 @@ fn put_values(out: &mut [u8], at: usize, r: Reply, xs: &[f64]) -> usize
         Reply::Moments(m) => put_moments(out, at, m),
         Reply::Parameters(p) => put_params(out, at, p),
         Reply::Walked(w) => put_report(out, at, w),
-        Reply::Listed(n) => put_listed(out, at, n, xs),
+        Reply::Searched(f) => put_search(out, at, f),
+        Reply::Listed(count, n) => put_listed(out, at, count, n, xs),
         _ => put_value(out, at, r),
     }
 }
@@ -141,11 +154,36 @@ fn put_report(out: &mut [u8], at: usize, w: Report) -> usize
     put_moments(out, d, new_moments)
 }
 
-// How many, then so many fractions.
-fn put_listed(out: &mut [u8], at: usize, n: usize, xs: &[f64]) -> usize
+fn put_search(out: &mut [u8], at: usize, f: Search) -> usize
     ensures { λ place. ⌜ After (length (now (out .entry))) at place ⌝ }
 {
-    let mut k = put_natural(out, at, n as u64);
+    let a = put_row(out, at, f);
+    let b = put_text(out, a, b" state");
+    let parameters = f.parameters;
+    let c = put_params(out, b, parameters);
+    let d = put_fraction(out, c, f.error);
+    let e = put_fraction(out, d, f.epsilon);
+    let new_moments = f.new_moments;
+    put_moments(out, e, new_moments)
+}
+
+fn put_row(out: &mut [u8], at: usize, f: Search) -> usize
+    ensures { λ place. ⌜ After (length (now (out .entry))) at place ⌝ }
+{
+    if !f.is_row {
+        return put_text(out, at, b" none");
+    }
+    let a = put_text(out, at, b" row");
+    let row = f.row;
+    let b = put_params(out, a, row);
+    put_fraction(out, b, f.row_error)
+}
+
+// How many entries, then the fractions that they are made of.
+fn put_listed(out: &mut [u8], at: usize, count: usize, n: usize, xs: &[f64]) -> usize
+    ensures { λ place. ⌜ After (length (now (out .entry))) at place ⌝ }
+{
+    let mut k = put_natural(out, at, count as u64);
     let most = fields::least(n, xs.len());
     let mut i = 0;
     while i < most {

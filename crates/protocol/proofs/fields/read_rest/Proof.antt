@@ -1,82 +1,41 @@
--- `protocol::fields::read_rest` meets its contract: a turn reads one fraction, and those that are left stand in what is left (`Reading.antt`). Assumes nothing.
-use Prim.Native.Nat.{_-_, _≤_}
-use mathlib.Core.Path.{_≡_, _∙_, ap, sym}
-use native.Mathlib.Omega.{arith}
+-- `protocol::fields::read_rest` meets its contract: the fractions are there, or they are not, and nothing is left past the end. Assumes nothing.
+use mathlib.Core.Path.{sym}
 use borrow.Author.Needs.{needs}
-use lib.ListN.{length, drop}
-use Rattle.protocol.specs.Words.{entries, isRest}
-use Rattle.protocol.proofs.Reading.{none-yet, one-more, not-one, no-more, nil-past}
+use Rattle.protocol.proofs.Reading.{nil-past}
 use Rattle.protocol.proofs.fields.read_rest.Statement.{statement}
 use Rattle.protocol.proofs.fields.read_rest.Tie as tie
 
-abbrev Inv-loop : tie.InvT-loop
-Inv-loop s at xs₀ n k₀ i₀ xs k i =
-    (length xs ≡ length xs₀) × (n ≡ length xs₀) × (i ≤ n) × (entries n (drop at s) ≡ entries (n - i) (drop k s))
+read-next-fractions-requires : tie.Need-read-next-fractions-requires
+read-next-fractions-requires c κs = search needs
 
-abbrev μ-loop : tie.MeasureT-loop
-μ-loop s at xs₀ n k₀ i₀ xs k i = n - i
+enum-known-k : tie.Need-enum-known-k
+enum-known-k c = search needs
 
-loop-holds : tie.Need-loop-holds Inv-loop μ-loop
-loop-holds c =
-    (search needs, search needs, search needs, none-yet _ _)
-
-read-next-fraction-requires : tie.Need-read-next-fraction-requires Inv-loop μ-loop
-read-next-fraction-requires c κs = search needs
-
-enum-known-x : tie.Need-enum-known-x Inv-loop μ-loop
-enum-known-x c = search needs
-
-enum-told : tie.Need-enum-told Inv-loop μ-loop
+enum-told : tie.Need-enum-told
 enum-told c = search needs
 
-same-length : tie.Need-same-length Inv-loop μ-loop
+same-length : tie.Need-same-length
 same-length c = search needs
 
-returns : tie.Need-returns Inv-loop μ-loop
-returns c =
-    let e = rw (c .enum-told .given .1) at (c .before .before .read-next-fraction .ensures) in
-    sym (ap isRest (c .before .before .before .before .loop .inv .3 ∙ not-one _ _ _ (omega arith) e))
+returns : tie.Need-returns
+returns c = rw (c .before .before .before .before .read-next-fractions .ensures, c .enum-told .given .1)
 
-mul-xs : tie.Need-mul-xs Inv-loop μ-loop
-mul-xs c = omega arith
-
-slice-write-xs : tie.Need-slice-write-xs Inv-loop μ-loop
-slice-write-xs c = search needs
-
-add-i : tie.Need-add-i Inv-loop μ-loop
-add-i c = omega arith
-
-loop-less : tie.Need-loop-less Inv-loop μ-loop
-loop-less c = omega arith
-
-loop-again : tie.Need-loop-again Inv-loop μ-loop
-loop-again c =
-    let e = rw (c .before .x .given .1) at (c .before .before .before .read-next-fraction .ensures) in
-    (search needs, search needs, omega arith, c .before .before .before .before .before .loop .inv .3 ∙ one-more _ _ _ _ _ (omega arith) e)
-
-same-length-2 : tie.Need-same-length-2 Inv-loop μ-loop
+same-length-2 : tie.Need-same-length-2
 same-length-2 c = search needs
 
-returns-2 : tie.Need-returns-2 Inv-loop μ-loop
+returns-2 : tie.Need-returns-2
 returns-2 c =
-    sym (ap isRest (c .before .loop .inv .3 ∙ no-more _ _ _ (omega arith)) ∙ nil-past (c .before .before .before .before .args .s .now) (c .before .loop .k))
+    let d = c .before .before .before .before .before in
+    rw (d .read-next-fractions .ensures, c .before .k .given .1) (sym (nil-past (d .before .before .before .before .args .s .now) (c .before .k .given .0 .0)))
 
 pub read-rest-spec : {M : Type 1} → statement M
 read-rest-spec =
     tie.close
     (tie.spec
-    Inv-loop
-    μ-loop
-    loop-holds
-    read-next-fraction-requires
-    enum-known-x
+    read-next-fractions-requires
+    enum-known-k
     enum-told
     same-length
     returns
-    mul-xs
-    slice-write-xs
-    add-i
-    loop-less
-    loop-again
     same-length-2
     returns-2)

@@ -9,10 +9,10 @@ use Rattle.protocol.proofs.replies.put_listed.Statement.{statement}
 use Rattle.protocol.proofs.replies.put_listed.Tie as tie
 
 abbrev Inv-loop : tie.InvT-loop
-Inv-loop out₀ at n xs k₀ most i₀ out k i = (length out ≡ length out₀) × After (length out₀) at k
+Inv-loop out₀ at count n xs k₀ most i₀ out k i = (length out ≡ length out₀) × After (length out₀) at k
 
 abbrev μ-loop : tie.MeasureT-loop
-μ-loop out₀ at n xs k₀ most i₀ out k i = most - i
+μ-loop out₀ at count n xs k₀ most i₀ out k i = most - i
 
 put-natural-requires : tie.Need-put-natural-requires Inv-loop μ-loop
 put-natural-requires c κs = search needs
