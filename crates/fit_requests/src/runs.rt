@@ -98,19 +98,8 @@ fn rows_reply(n: usize) -> Reply
     Reply::Listed(n, 6 * n)
 }
 
-fn no_row() -> FitResultRow {
-    FitResultRow {
-        mu_1: 0.0,
-        mu_2: 0.0,
-        sigma_1: 0.0,
-        sigma_2: 0.0,
-        p_1: 0.0,
-        error: 0.0,
-    }
-}
-
 fn lent(m: M2N, xs: &[f64], n: usize) -> Runs {
-    ef3m::mp_fit_through(m, words::weights_in(xs, n), [no_row(); 64])
+    ef3m::mp_fit_through(m, words::weights_in(xs, n), [words::no_row(); 64])
 }
 
 fn flat(m: M2N, xs: &[f64], n: usize, places: usize) -> Flat {
@@ -141,11 +130,10 @@ fn runs_from(s: &[u8], at: usize, m: [f64; 16], t: Settings, places: u64, xs: &m
     requires { ⌜ 384 ≤ length (now xs) ⌝ }
     ensures { λ r. ⌜ ListedIn 384 r ⌝ }
 {
-    let mut v = [0.0f64; 11];
-    let Tail::Is(n) = words::read_tail(s, at, &mut v, xs) else {
+    let Tail::Is(p, error, new, n) = words::read_tail(s, at, xs) else {
         return Reply::Bad;
     };
-    fill(words::state_of(m, v, t), n, places as usize, xs)
+    fill(words::state_of(m, t, p, error, new), n, places as usize, xs)
 }
 
 fn mp_fit(s: &[u8], at: usize, xs: &mut [f64]) -> Reply

@@ -59,17 +59,6 @@ fn row_params(r: FitResultRow) -> Params {
     }
 }
 
-fn no_row() -> FitResultRow {
-    FitResultRow {
-        mu_1: 0.0,
-        mu_2: 0.0,
-        sigma_1: 0.0,
-        sigma_2: 0.0,
-        p_1: 0.0,
-        error: 0.0,
-    }
-}
-
 fn search_of(m: M2N, is_row: bool, r: FitResultRow) -> Search {
     let parameters = m.parameters;
     let new_moments = m.new_moments;
@@ -87,7 +76,7 @@ fn search_of(m: M2N, is_row: bool, r: FitResultRow) -> Search {
 fn ended(m: M2N, best: Best) -> Search {
     match best {
         Best::Row(r) => search_of(m, true, r),
-        Best::Nothing => search_of(m, false, no_row()),
+        Best::Nothing => search_of(m, false, words::no_row()),
     }
 }
 
@@ -110,11 +99,10 @@ fn searched(m: M2N, e: Epsilon, xs: &[f64], n: usize) -> Fitted {
 fn search_from(s: &[u8], at: usize, m: [f64; 16], t: Settings, e: Epsilon, xs: &mut [f64]) -> Reply
     ensures { λ r. ⌜ Unlisted r ⌝ }
 {
-    let mut v = [0.0f64; 11];
-    let Tail::Is(n) = words::read_tail(s, at, &mut v, xs) else {
+    let Tail::Is(p, error, new, n) = words::read_tail(s, at, xs) else {
         return Reply::Bad;
     };
-    reply(searched(words::state_of(m, v, t), e, xs, n))
+    reply(searched(words::state_of(m, t, p, error, new), e, xs, n))
 }
 
 fn single_fit(s: &[u8], at: usize, xs: &mut [f64]) -> Reply

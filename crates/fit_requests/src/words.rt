@@ -1,10 +1,11 @@
 // The words that both kinds have, and the fit state that they are.
+use grid::FitResultRow;
 use moments::Five;
 use moments::Params;
 use protocol::fields;
 use protocol::fields::Fraction;
 use protocol::fields::List;
-use text::Next;
+use protocol::fields::State;
 use text::Number;
 use walk::M2N;
 
@@ -44,15 +45,15 @@ pub(crate) fn read_limits(s: &[u8], at: usize) -> Limits {
     Limits::Are(factor, max_iter, b)
 }
 
-// How many weights there are.
+// Parameters, error and new moments, and how many weights there are.
 pub(crate) enum Tail {
-    Is(usize),
+    Is(Params, f64, Five, usize),
     No,
 }
 
-// The words that a request ends with: its state into v, its weights into xs.
-pub(crate) fn read_tail(s: &[u8], at: usize, v: &mut [f64], xs: &mut [f64]) -> Tail {
-    let Next::At(a) = fields::read_next_fractions(s, at, v) else {
+// The words that a request ends with, its weights into xs.
+pub(crate) fn read_tail(s: &[u8], at: usize, xs: &mut [f64]) -> Tail {
+    let State::Is(parameters, error, new_moments, a) = fields::read_next_state(s, at) else {
         return Tail::No;
     };
     let List::Is(n, e) = fields::read_next_list(s, a, xs) else {
@@ -61,7 +62,7 @@ pub(crate) fn read_tail(s: &[u8], at: usize, v: &mut [f64], xs: &mut [f64]) -> T
     if e != s.len() {
         return Tail::No;
     }
-    Tail::Is(n)
+    Tail::Is(parameters, error, new_moments, n)
 }
 
 // What a request sets beside lists.
@@ -74,28 +75,7 @@ pub(crate) struct Settings {
     pub(crate) runs: u64,
 }
 
-fn parameters_of(v: [f64; 11]) -> Params {
-    Params {
-        mu_1: v[0],
-        mu_2: v[1],
-        sigma_1: v[2],
-        sigma_2: v[3],
-        p_1: v[4],
-    }
-}
-
-fn moments_of(v: [f64; 11]) -> Five {
-    Five {
-        m_1: v[6],
-        m_2: v[7],
-        m_3: v[8],
-        m_4: v[9],
-        m_5: v[10],
-    }
-}
-
-// v is the request's state: parameters, error, new moments.
-pub(crate) fn state_of(m: [f64; 16], v: [f64; 11], t: Settings) -> M2N {
+pub(crate) fn state_of(m: [f64; 16], t: Settings, p: Params, error: f64, new: Five) -> M2N {
     M2N {
         moments: m,
         len: t.len,
@@ -104,13 +84,25 @@ pub(crate) fn state_of(m: [f64; 16], v: [f64; 11], t: Settings) -> M2N {
         n_runs: t.runs as usize,
         variant: t.variant as usize,
         max_iter: t.max_iter as usize,
-        new_moments: moments_of(v),
-        parameters: parameters_of(v),
-        error: v[5],
+        new_moments: new,
+        parameters: p,
+        error: error,
     }
 }
 
-// The weights, of which there are n. A line has fewer than the list that answers are left in.
+// Stands in the places of rows that are not there.
+pub(crate) fn no_row() -> FitResultRow {
+    FitResultRow {
+        mu_1: 0.0,
+        mu_2: 0.0,
+        sigma_1: 0.0,
+        sigma_2: 0.0,
+        p_1: 0.0,
+        error: 0.0,
+    }
+}
+
+// The n weights that were read into xs. The program's list has more places than a line has weights.
 pub(crate) fn weights_in(xs: &[f64], n: usize) -> &[f64] {
     let k = fields::least(n, xs.len());
     &xs[..k]

@@ -9,6 +9,7 @@ use Rattle.text.specs.Bytes.{bytes}
 use Rattle.text.specs.Decode.{Got, got, bad, _▷_, word, hexes, instant, natural, upTo}
 use Rattle.protocol.specs.declared.fields.Fraction as fraction
 use Rattle.protocol.specs.declared.fields.List as list
+use Rattle.protocol.specs.declared.fields.State as state
 
 -- whether the bytes are of the form
 module _ {A : Type 0} where
@@ -52,6 +53,10 @@ nextList s = nextNatural (2 ^ 64 - 1) s ▷ (λ n t. entries n t ▷ (λ u v. go
 abbrev pub fractionIs : List ℕ → fraction.Fraction → Got Float
 fractionIs s (fraction.the-variants.Is x k) = got x (drop k s)
 fractionIs s fraction.the-variants.No = bad
+
+abbrev pub stateIs : List ℕ → state.State → Got (Unit {0})
+stateIs s (state.the-variants.Is p x m k) = got tt (drop k s)
+stateIs s state.the-variants.No = bad
 
 abbrev pub listIs : List ℕ → list.List → Got ℕ
 listIs s (list.the-variants.Is n k) = got n (drop k s)

@@ -4,7 +4,9 @@ ghost use mathlib.Core.Path.{_≡_};
 ghost use lib.ListN.{drop, length};
 ghost use Rattle.text.specs.Decode.{word};
 ghost use Rattle.text.specs.Meaning.{instantIs, nextIs, numberIs};
-ghost use Rattle.protocol.specs.Words.{aFraction, entries, fractionIs, isGot, isRest, listIs, nextFraction, nextInstant, nextList, nextNatural};
+ghost use Rattle.protocol.specs.Words.{aFraction, entries, fractionIs, isGot, isRest, listIs, nextFraction, nextInstant, nextList, nextNatural, stateIs};
+use moments::Five;
+use moments::Params;
 use text::Instant;
 use text::Next;
 use text::Number;
@@ -91,6 +93,43 @@ pub fn read_rest(s: &[u8], at: usize, xs: &mut [f64]) -> bool
         return false;
     };
     s.len() <= k
+}
+
+// A state: parameters, error, new moments, and the place after it.
+pub enum State {
+    Is(Params, f64, Five, usize),
+    No,
+}
+
+fn parameters_of(v: [f64; 11]) -> Params {
+    Params {
+        mu_1: v[0],
+        mu_2: v[1],
+        sigma_1: v[2],
+        sigma_2: v[3],
+        p_1: v[4],
+    }
+}
+
+fn moments_of(v: [f64; 11]) -> Five {
+    Five {
+        m_1: v[6],
+        m_2: v[7],
+        m_3: v[8],
+        m_4: v[9],
+        m_5: v[10],
+    }
+}
+
+// The state after a blank, eleven fractions.
+pub fn read_next_state(s: &[u8], at: usize) -> State
+    ensures { λ r. ⌜ entries 11 (drop at (now (s .entry))) ≡ stateIs (now (s .entry)) r ⌝ }
+{
+    let mut v = [0.0f64; 11];
+    let Next::At(k) = read_next_fractions(s, at, &mut v) else {
+        return State::No;
+    };
+    State::Is(parameters_of(v), v[5], moments_of(v), k)
 }
 
 // How many entries a list has, and the place after it.

@@ -1,10 +1,9 @@
 // The request of a walk. A list longer than 16 is read, and refused by the library.
 ghost use Rattle.protocol.specs.Replies.{Unlisted};
-use moments::Five;
-use moments::Params;
 use protocol::fields;
 use protocol::fields::Fraction;
 use protocol::fields::List;
+use protocol::fields::State;
 use protocol::replies::Reply;
 use protocol::replies::Report;
 use text::Number;
@@ -38,26 +37,6 @@ fn read_start(s: &[u8], at: usize) -> Start {
         return Start::No;
     };
     Start::At(mu_2, p_1, epsilon, c)
-}
-
-fn parameters_of(v: [f64; 11]) -> Params {
-    Params {
-        mu_1: v[0],
-        mu_2: v[1],
-        sigma_1: v[2],
-        sigma_2: v[3],
-        p_1: v[4],
-    }
-}
-
-fn moments_of(v: [f64; 11]) -> Five {
-    Five {
-        m_1: v[6],
-        m_2: v[7],
-        m_3: v[8],
-        m_4: v[9],
-        m_5: v[10],
-    }
 }
 
 fn reply(w: Walked) -> Reply
@@ -95,9 +74,10 @@ fn walk_from(s: &[u8], at: usize, variant: u64, m: [f64; 16], n: usize) -> Reply
     let Number::Is(max_iter, b) = fields::read_next_natural(s, a, u64::MAX) else {
         return Reply::Bad;
     };
-    // the state: parameters, error, new moments
-    let mut v = [0.0f64; 11];
-    if !fields::read_rest(s, b, &mut v) {
+    let State::Is(parameters, error, new_moments, e) = fields::read_next_state(s, b) else {
+        return Reply::Bad;
+    };
+    if e != s.len() {
         return Reply::Bad;
     }
     reply(walk::iterate_from(
@@ -109,9 +89,9 @@ fn walk_from(s: &[u8], at: usize, variant: u64, m: [f64; 16], n: usize) -> Reply
             n_runs: 1,
             variant: variant as usize,
             max_iter: max_iter as usize,
-            new_moments: moments_of(v),
-            parameters: parameters_of(v),
-            error: v[5],
+            new_moments: new_moments,
+            parameters: parameters,
+            error: error,
         },
         mu_2,
         p_1,
