@@ -1,0 +1,76 @@
+//! `fit_speed`: seconds of one search on both sides in the same run, three times for each epsilon
+//! and variant, on the raw moments of a mixture with mean 0. The answers are compared too. Seconds
+//! are the processor's, since other work on the machine would show in those of a clock.
+
+use grids::{port, rust, Ask, Left};
+use oracle::ef3m::M2N;
+use oracle::refusals::rows;
+use std::process::exit;
+
+extern "C" {
+    /// C's processor time of this program, in millionths of a second.
+    fn clock() -> i64;
+}
+
+const TRUTH: [f64; 5] = [-1.0, 1.0, 1.0, 0.5, 0.5];
+
+/// Xorshift, so that the weights are the same in every run.
+fn weights(count: usize) -> Vec<f64> {
+    let mut at = 12345u64;
+    let mut next = || {
+        at ^= at << 13;
+        at ^= at >> 7;
+        at ^= at << 17;
+        (at >> 11) as f64 / 9007199254740992.0
+    };
+    (0..count).map(|_| next()).collect()
+}
+
+fn ask(moments: &[f64], epsilon: f64, variant: usize) -> Ask {
+    let mut fit = vec![0.0; 12];
+    fit[6] = epsilon;
+    Ask {
+        moments: moments.to_vec(),
+        variant,
+        factor: 5.0,
+        max_iter: 100_000,
+        epsilon_override: None,
+        runs: None,
+        weights: weights(rows(epsilon)),
+        fit,
+        rows: vec![0.0; 6],
+        count: 0,
+    }
+}
+
+/// The draws are set before the clock starts: the port has its weights beforehand too.
+fn timed(side: fn(&Ask) -> Left, ask: &Ask) -> (Left, f64) {
+    rust::draw(ask);
+    // It takes nothing and touches no memory of ours.
+    let now = || unsafe { clock() };
+    let begin = now();
+    let left = side(ask);
+    (left, (now() - begin) as f64 / 1e6)
+}
+
+fn main() {
+    let moments = M2N::with_defaults(vec![]).get_moments(&TRUTH, true);
+    let moments = moments.expect("asked for the result");
+    for epsilon in [1e-4, 1e-5] {
+        for variant in [1, 2] {
+            let ask = ask(&moments, epsilon, variant);
+            for _ in 0..3 {
+                let (theirs, rust_seconds) = timed(rust::drawn, &ask);
+                let (own, port_seconds) = timed(port::answer, &ask);
+                if theirs.words() != own.words() {
+                    println!("epsilon {epsilon:e}, variant {variant}: answers differ");
+                    exit(1);
+                }
+                println!(
+                    "epsilon {epsilon:e}, variant {variant}: Rust {rust_seconds:.6} s, port {port_seconds:.6} s, ratio {:.2}",
+                    rust_seconds / port_seconds
+                );
+            }
+        }
+    }
+}
