@@ -4,6 +4,7 @@ use fit_requests::runs;
 use fit_requests::searches;
 use number_requests::leaves;
 use number_requests::orders;
+use price_requests::curves;
 use protocol::replies;
 use protocol::replies::Reply;
 use step_requests::steps;
@@ -30,5 +31,9 @@ pub(crate) fn answer(s: &[u8], xs: &mut [f64]) -> Reply {
     if !replies::is_bad(r) {
         return r;
     }
-    runs::answer(s, xs)
+    let r = runs::answer(s, xs);
+    if !replies::is_bad(r) {
+        return r;
+    }
+    curves::answer(s)
 }

@@ -1,0 +1,11 @@
+pub mod Collecting
+pub mod Filling
+pub mod Halves
+pub mod Keys
+pub mod Merging
+pub mod Netting
+pub mod Ranks
+pub mod Refusing
+pub mod Searching
+pub mod Signs
+pub mod Sizing

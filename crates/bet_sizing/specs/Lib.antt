@@ -1,0 +1,6 @@
+pub mod Budget
+pub mod Counting
+pub mod Counts
+pub mod Figures
+pub mod Refusals
+pub mod Sorting

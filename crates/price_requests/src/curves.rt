@@ -1,0 +1,60 @@
+// Requests of the sigmoid curve. The function of each takes the request and the place after its
+// name.
+ghost use Rattle.protocol.specs.Replies.{Unlisted};
+use prices::Limit;
+use protocol::fields;
+use protocol::replies::Reply;
+
+pub fn answer(s: &[u8]) -> Reply
+    ensures { λ r. ⌜ Unlisted r ⌝ }
+{
+    if fields::begins(s, b"w_sigmoid ") {
+        return w_sigmoid(s, 9);
+    }
+    if fields::begins(s, b"inv_price_sigmoid ") {
+        return inv_price_sigmoid(s, 17);
+    }
+    if fields::begins(s, b"limit_price_sigmoid ") {
+        return limit_price_sigmoid(s, 19);
+    }
+    Reply::Bad
+}
+
+fn w_sigmoid(s: &[u8], at: usize) -> Reply
+    ensures { λ r. ⌜ Unlisted r ⌝ }
+{
+    let mut v = [0.0f64; 2];
+    if !fields::read_rest(s, at, &mut v) {
+        return Reply::Bad;
+    }
+    Reply::Fraction(prices::get_w_sigmoid(v[0], v[1]))
+}
+
+fn inv_price_sigmoid(s: &[u8], at: usize) -> Reply
+    ensures { λ r. ⌜ Unlisted r ⌝ }
+{
+    let mut v = [0.0f64; 3];
+    if !fields::read_rest(s, at, &mut v) {
+        return Reply::Bad;
+    }
+    Reply::Fraction(prices::inv_price_sigmoid(v[0], v[1], v[2]))
+}
+
+fn limit_reply(r: Limit) -> Reply
+    ensures { λ r. ⌜ Unlisted r ⌝ }
+{
+    match r {
+        Limit::Refused(number) => Reply::Refused(number),
+        Limit::Price(x) => Reply::Fraction(x),
+    }
+}
+
+fn limit_price_sigmoid(s: &[u8], at: usize) -> Reply
+    ensures { λ r. ⌜ Unlisted r ⌝ }
+{
+    let mut v = [0.0f64; 5];
+    if !fields::read_rest(s, at, &mut v) {
+        return Reply::Bad;
+    }
+    limit_reply(prices::limit_price_sigmoid(v[0], v[1], v[2], v[3], v[4]))
+}

@@ -1,0 +1,2 @@
+pub mod PriceFigures
+pub mod Prices
