@@ -1,5 +1,6 @@
 // Which kind of request a line is. A kind to which the line does not belong replies `Bad`, and the
 // next is asked. Weights are read into xs, and answers that are lists left there.
+use bet_requests::spans;
 use fit_requests::runs;
 use fit_requests::searches;
 use number_requests::leaves;
@@ -35,5 +36,9 @@ pub(crate) fn answer(s: &[u8], xs: &mut [f64]) -> Reply {
     if !replies::is_bad(r) {
         return r;
     }
-    curves::answer(s)
+    let r = curves::answer(s);
+    if !replies::is_bad(r) {
+        return r;
+    }
+    spans::answer(s, xs)
 }

@@ -16,3 +16,4 @@ more-room m n reply.the-variants.Inadmissible h l = tt
 more-room m n (reply.the-variants.Walked v) h l = tt
 more-room m n (reply.the-variants.Searched v) h l = tt
 more-room m n (reply.the-variants.Listed count k) h l = omega arith
+more-room m n (reply.the-variants.Spanned v) h l = omega arith

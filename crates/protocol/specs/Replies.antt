@@ -1,5 +1,5 @@
 -- How many fractions a reply may have in the list beside it. Definitions only.
-use Prim.Native.Nat.{ℕ, _≤_}
+use Prim.Native.Nat.{ℕ, _*_, _≤_}
 use Rattle.protocol.specs.declared.replies.Reply as reply
 
 -- a reply that is a list has at most n fractions in all
@@ -15,6 +15,7 @@ ListedIn n reply.the-variants.Inadmissible = Unit {0}
 ListedIn n (reply.the-variants.Walked v) = Unit {0}
 ListedIn n (reply.the-variants.Searched v) = Unit {0}
 ListedIn n (reply.the-variants.Listed count k) = k ≤ n
+ListedIn n (reply.the-variants.Spanned v) = v .columns * v .count ≤ n
 
 -- a reply that has nothing in the list beside it
 abbrev pub Unlisted : reply.Reply → Type 0

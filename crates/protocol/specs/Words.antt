@@ -31,10 +31,15 @@ nextNatural limit s = word (bytes " ") s ▷ (λ u t. upTo limit (natural t))
 abbrev pub nextInstant : List ℕ → Got ℤ
 nextInstant s = word (bytes " ") s ▷ (λ u t. instant t)
 
+-- n of a form
+module _ {A : Type 0} where
+  unfoldable pub entriesOf : (List ℕ → Got A) → ℕ → List ℕ → Got (Unit {0})
+  entriesOf form zero s = got tt s
+  entriesOf form (suc n) s = form s ▷ (λ x t. entriesOf form n t)
+
 -- n fractions, each after a blank
-unfoldable pub entries : ℕ → List ℕ → Got (Unit {0})
-entries zero s = got tt s
-entries (suc n) s = nextFraction s ▷ (λ x t. entries n t)
+abbrev pub entries : ℕ → List ℕ → Got (Unit {0})
+entries n s = entriesOf nextFraction n s
 
 abbrev pub isNil : List ℕ → Bool
 isNil [] = true
@@ -45,9 +50,16 @@ abbrev pub isRest : Got (Unit {0}) → Bool
 isRest (got u s) = isNil s
 isRest bad = false
 
--- how many, and then so many fractions
+-- how many, and then so many of a form
+module _ {A : Type 0} where
+  abbrev pub listOf : (List ℕ → Got A) → List ℕ → Got ℕ
+  listOf form s = nextNatural (2 ^ 64 - 1) s ▷ (λ n t. entriesOf form n t ▷ (λ u v. got n v))
+
 abbrev pub nextList : List ℕ → Got ℕ
-nextList s = nextNatural (2 ^ 64 - 1) s ▷ (λ n t. entries n t ▷ (λ u v. got n v))
+nextList s = listOf nextFraction s
+
+abbrev pub nextInstants : List ℕ → Got ℕ
+nextInstants s = listOf nextInstant s
 
 -- what an answer says
 abbrev pub fractionIs : List ℕ → fraction.Fraction → Got Float

@@ -28,6 +28,15 @@ pub struct Search {
     pub new_moments: Five,
 }
 
+// A row for each span: how many spans, whether one or two columns of fractions, and the place in the
+// request before its list of starts. The columns stand in a list beside the reply, the second from
+// the middle of the list on.
+pub struct SpanRows {
+    pub count: usize,
+    pub columns: usize,
+    pub starts: usize,
+}
+
 pub enum Reply {
     // the line is no request
     Bad,
@@ -44,6 +53,7 @@ pub enum Reply {
     Searched(Search),
     // so many entries, of so many fractions in all, which stand in a list beside the reply
     Listed(usize, usize),
+    Spanned(SpanRows),
 }
 
 pub fn is_bad(r: Reply) -> bool
@@ -193,21 +203,21 @@ fn put_listed(out: &mut [u8], at: usize, count: usize, n: usize, xs: &[f64]) -> 
     k
 }
 
-fn put_fraction(out: &mut [u8], at: usize, x: f64) -> usize
+pub(crate) fn put_fraction(out: &mut [u8], at: usize, x: f64) -> usize
     ensures { λ place. ⌜ After (length (now (out .entry))) at place ⌝ }
 {
     let k = put_text(out, at, b" ");
     text::put_hex(out, k, text::bits_of(x))
 }
 
-fn put_natural(out: &mut [u8], at: usize, n: u64) -> usize
+pub(crate) fn put_natural(out: &mut [u8], at: usize, n: u64) -> usize
     ensures { λ place. ⌜ After (length (now (out .entry))) at place ⌝ }
 {
     let k = put_text(out, at, b" ");
     text::put_decimal(out, k, n)
 }
 
-fn put_instant(out: &mut [u8], at: usize, i: i64) -> usize
+pub(crate) fn put_instant(out: &mut [u8], at: usize, i: i64) -> usize
     ensures { λ place. ⌜ After (length (now (out .entry))) at place ⌝ }
 {
     let k = put_text(out, at, b" ");
@@ -215,7 +225,7 @@ fn put_instant(out: &mut [u8], at: usize, i: i64) -> usize
 }
 
 // Of the contract of text::put no more is kept than where the place after may stand.
-fn put_text(out: &mut [u8], at: usize, w: &[u8]) -> usize
+pub(crate) fn put_text(out: &mut [u8], at: usize, w: &[u8]) -> usize
     ensures { λ place. ⌜ After (length (now (out .entry))) at place ⌝ }
 {
     text::put(out, at, w)

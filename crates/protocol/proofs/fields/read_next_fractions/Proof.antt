@@ -4,7 +4,7 @@ use mathlib.Core.Path.{_≡_, _∙_}
 use native.Mathlib.Omega.{arith}
 use borrow.Author.Needs.{needs}
 use lib.ListN.{length, drop}
-use Rattle.protocol.specs.Words.{entries}
+use Rattle.protocol.specs.Words.{entries, nextFraction}
 use Rattle.protocol.proofs.Reading.{none-yet, one-more, not-one, no-more}
 use Rattle.protocol.proofs.fields.read_next_fractions.Statement.{statement}
 use Rattle.protocol.proofs.fields.read_next_fractions.Tie as tie
@@ -18,7 +18,7 @@ abbrev μ-loop : tie.MeasureT-loop
 
 loop-holds : tie.Need-loop-holds Inv-loop μ-loop
 loop-holds c =
-    (search needs, search needs, search needs, none-yet _ _)
+    (search needs, search needs, search needs, none-yet nextFraction _ _)
 
 read-next-fraction-requires : tie.Need-read-next-fraction-requires Inv-loop μ-loop
 read-next-fraction-requires c κs = search needs
@@ -35,7 +35,7 @@ same-length c = search needs
 returns : tie.Need-returns Inv-loop μ-loop
 returns c =
     let e = rw (c .enum-told .given .1) at (c .before .before .read-next-fraction .ensures) in
-    c .before .before .before .before .loop .inv .3 ∙ not-one _ _ _ (omega arith) e
+    c .before .before .before .before .loop .inv .3 ∙ not-one nextFraction _ _ _ (omega arith) e
 
 mul-xs : tie.Need-mul-xs Inv-loop μ-loop
 mul-xs c = omega arith
@@ -52,13 +52,13 @@ loop-less c = omega arith
 loop-again : tie.Need-loop-again Inv-loop μ-loop
 loop-again c =
     let e = rw (c .before .x .given .1) at (c .before .before .before .read-next-fraction .ensures) in
-    (search needs, search needs, omega arith, c .before .before .before .before .before .loop .inv .3 ∙ one-more _ _ _ _ _ (omega arith) e)
+    (search needs, search needs, omega arith, c .before .before .before .before .before .loop .inv .3 ∙ one-more nextFraction _ _ _ _ _ (omega arith) e)
 
 same-length-2 : tie.Need-same-length-2 Inv-loop μ-loop
 same-length-2 c = search needs
 
 returns-2 : tie.Need-returns-2 Inv-loop μ-loop
-returns-2 c = c .before .loop .inv .3 ∙ no-more _ _ _ (omega arith)
+returns-2 c = c .before .loop .inv .3 ∙ no-more nextFraction _ _ _ (omega arith)
 
 pub read-next-fractions-spec : {M : Type 1} → statement M
 read-next-fractions-spec =

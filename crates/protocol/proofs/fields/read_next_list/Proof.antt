@@ -4,7 +4,7 @@ use mathlib.Core.Path.{_≡_, _∙_}
 use native.Mathlib.Omega.{arith}
 use borrow.Author.Needs.{needs}
 use lib.ListN.{length, drop}
-use Rattle.protocol.specs.Words.{entries}
+use Rattle.protocol.specs.Words.{entries, nextFraction}
 use Rattle.protocol.proofs.Reading.{none-yet, one-more, not-one, no-more}
 use Rattle.protocol.proofs.fields.read_next_list.Statement.{statement}
 use Rattle.protocol.proofs.fields.read_next_list.Tie as tie
@@ -31,7 +31,7 @@ returns c =
 
 loop-holds : tie.Need-loop-holds Inv-loop μ-loop
 loop-holds c =
-    (search needs, search needs, none-yet _ _)
+    (search needs, search needs, none-yet nextFraction _ _)
 
 read-next-fraction-requires : tie.Need-read-next-fraction-requires Inv-loop μ-loop
 read-next-fraction-requires c κs = search needs
@@ -48,7 +48,7 @@ same-length c = search needs
 returns-2 : tie.Need-returns-2 Inv-loop μ-loop
 returns-2 c =
     let e = rw (c .enum-told2 .given .1) at (c .before .before .read-next-fraction .ensures) in
-    rw (c .before .before .before .before .before .before .before .before .read-next-natural .ensures, c .before .before .before .before .before .before .n .given .1, c .before .before .before .before .loop .inv .2 ∙ not-one _ _ _ (omega arith) e)
+    rw (c .before .before .before .before .before .before .before .before .read-next-natural .ensures, c .before .before .before .before .before .before .n .given .1, c .before .before .before .before .loop .inv .2 ∙ not-one nextFraction _ _ _ (omega arith) e)
 
 keep-requires : tie.Need-keep-requires Inv-loop μ-loop
 keep-requires c κs = search needs
@@ -62,14 +62,14 @@ loop-less c = omega arith
 loop-again : tie.Need-loop-again Inv-loop μ-loop
 loop-again c =
     let e = rw (c .before .before .before .before .before .x .given .1) at (c .before .before .before .before .before .before .before .read-next-fraction .ensures) in
-    (search needs, omega arith, c .before .before .before .before .before .before .before .before .before .loop .inv .2 ∙ one-more _ _ _ _ _ (omega arith) e)
+    (search needs, omega arith, c .before .before .before .before .before .before .before .before .before .loop .inv .2 ∙ one-more nextFraction _ _ _ _ _ (omega arith) e)
 
 same-length-2 : tie.Need-same-length-2 Inv-loop μ-loop
 same-length-2 c = search needs
 
 returns-3 : tie.Need-returns-3 Inv-loop μ-loop
 returns-3 c =
-    rw (c .before .before .before .before .before .read-next-natural .ensures, c .before .before .before .n .given .1, c .before .loop .inv .2 ∙ no-more _ _ _ (omega arith))
+    rw (c .before .before .before .before .before .read-next-natural .ensures, c .before .before .before .n .given .1, c .before .loop .inv .2 ∙ no-more nextFraction _ _ _ (omega arith))
 
 pub read-next-list-spec : {M : Type 1} → statement M
 read-next-list-spec =

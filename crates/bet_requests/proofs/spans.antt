@@ -1,0 +1,2 @@
+-- Laws of the module `spans`.
+pub mod Written
