@@ -1,5 +1,6 @@
-// Requests of the counts and the budget over spans. A span has 21 bytes of a line at least, so 4,096
-// places are more than a line fills; what has no place is read, and refused as unequal in number.
+// Requests of the counts and the budget over spans. A side has 17 bytes of a line, so a line has
+// fewer than 4,096 of them. More starts or ends are unequal to them in number, also when cut to their
+// 4,096 places.
 ghost use Rattle.protocol.specs.Replies.{ListedIn};
 ghost use lib.ListN.{length};
 use bet_sizing::Outcome;

@@ -29,14 +29,13 @@ map-at f (s ∷ ss) rest zero h = refl
 map-at f (s ∷ ss) rest (suc i) h = map-at f ss rest i (omega arith)
 
 -- what the counts of both sides leave is what the sizes ask
-pub sizeable : {ss es : List ℤ} {ds old-long long old-short short : List Float} {a b : ℕ} (old : List Float) → Counted true ss es ds old-long long a → Counted false ss es ds old-short short b → length ss ≤ length long → length ss ≤ length short → length ss ≤ 16384 → length ss ≤ length old → Sizeable ss es ds long short a b old
-sizeable {ss} {es} {ds} old h k nl ns few room = record {
+pub sizeable : {ss es : List ℤ} {ds old-long long old-short short : List Float} {a b : ℕ} (old : List Float) → Counted true ss es ds old-long long a → Counted false ss es ds old-short short b → length ss ≤ length long → length ss ≤ length short → length ss ≤ length old → Sizeable ss es ds long short a b old
+sizeable {ss} {es} {ds} old h k nl ns room = record {
   in-long = nl;
   in-short = ns;
   longs = λ i l. ap (λ (x : List Float). getD x i nan) (h .list) ∙ map-at (λ t. whole (concurrent true t ss es ds)) ss _ i l;
   shorts = λ i l. ap (λ (x : List Float). getD x i nan) (k .list) ∙ map-at (λ t. whole (concurrent false t ss es ds)) ss _ i l;
   top-long = h .top;
   top-short = k .top;
-  few = few;
   room = room;
 }

@@ -31,15 +31,14 @@ ended long x (s ∷ ss) [] ds = 0
 ended long x (s ∷ ss) (e ∷ es) [] = 0
 ended long x (s ∷ ss) (e ∷ es) (d ∷ ds) = indicator (ltZ s e && onSide long d && leb (keyOf e) x) + ended long x ss es ds
 
--- as many ends and sides as starts, few enough, and room for the keys of all
+-- as many ends and sides as starts, and room for the keys of all
 pub record Collectable (ss es : List ℤ) (ds : List Float) (s e : List ℕ) : Type 0 where
   pub ends : length ss ≡ length es
   pub sides : length ss ≡ length ds
-  pub few : length ss ≤ 16384
   pub room-s : length ss ≤ length s
   pub room-e : length ss ≤ length e
 
--- the same, with room to sort and for the counts
+-- the same, few enough, with room to sort and for the counts
 pub record AcceptedIn (ss es : List ℤ) (ds : List Float) (s e t : List ℕ) (out : List Float) : Type 0 where
   pub ends : length ss ≡ length es
   pub sides : length ss ≡ length ds
@@ -93,5 +92,4 @@ pub record Sizeable (ss es : List ℤ) (ds long short : List Float) (a b : ℕ) 
   pub shorts : (i : ℕ) → i < length ss → getD short i nan ≡ whole (concurrent false (getD ss i (pos 0)) ss es ds)
   pub top-long : a ≡ maxConcurrent true ss es ds
   pub top-short : b ≡ maxConcurrent false ss es ds
-  pub few : length ss ≤ 16384
   pub room : length ss ≤ length old

@@ -27,7 +27,7 @@ sizes-of-requires : tie.Need-sizes-of-requires
 sizes-of-requires c κs =
     let long = c .before .before .before .before .before .before .before .count-side in
     let short = c .before .before .before .before .count-side2 in
-    sizeable _ (long .ensures) (short .ensures) (omega (arith, long .kept .1 .1 .1 .1 .0)) (omega (arith, short .kept .1 .1 .1 .1 .0)) (omega arith) (omega arith)
+    sizeable _ (long .ensures) (short .ensures) (omega (arith, long .kept .1 .1 .1 .1 .0)) (omega (arith, short .kept .1 .1 .1 .1 .0)) (omega arith)
 
 same-length : tie.Need-same-length
 same-length c = search needs
