@@ -4,11 +4,11 @@ use mathlib.Core.Bool.{Bool, _&&_, cond}
 use Prim.Native.Nat.{ℕ, zero, suc}
 use lib.ListN.{getD, replicate}
 use lib.Ieee.{Float, nan, binary64, add, mul, eq}
-use Rattle.float.specs.Constants.{nought}
+use Rattle.float.specs.Constants.{nought, minusNought}
 use Rattle.moments.specs.Mixture.{getMoments}
 use Rattle.moments.specs.Orders.{centredSum}
 use Rattle.moments.specs.declared.Params.{Params}
-use Rattle.walk.specs.Walk.{minusNought, errorOf}
+use Rattle.walk.specs.Walk.{errorOf}
 use Rattle.walk.specs.declared.M2N.{M2N}
 use Rattle.grid.specs.declared.FitResultRow.{FitResultRow}
 use Rattle.grid.specs.declared.Best.{Best}

@@ -4,7 +4,7 @@ use Prim.Native.Nat.{ℕ, zero, suc, _+_, _-_}
 use lib.Dec.{ltb}
 use lib.IntN.{ℤ, pos, negsuc, natAbs, _+ℤ_, _-ℤ_, _*ℤ_}
 use lib.Ieee.{Float, nan, inf, fin, binary64, add, sub, mul, div, lt, le, eq, ofInt, toSigned}
-use Rattle.float.specs.Constants.{nought, one}
+use Rattle.float.specs.Constants.{nought, one, minusNought}
 use Rattle.float.specs.Leaves.{absOf, finite}
 use Rattle.float.specs.Root.{root}
 use Rattle.prices.specs.declared.Limit.{Limit}
@@ -29,10 +29,6 @@ x ⊘ y = div binary64 x y
 
 abbrev pub √ : Float → Float
 √ x = root binary64 x
-
--- -0.0, from which a sum() starts
-abbrev pub minusNought : Float
-minusNought = fin true 0 (pos 0)
 
 -- infinite, of either sign
 abbrev pub infinite : Float → Bool

@@ -4,9 +4,8 @@ use mathlib.Core.Bool.{Bool, true, false, _&&_, _||_, not, cond}
 use Prim.Native.Nat.{ℕ, zero, suc, min}
 use lib.Dec.{ltb, eqb}
 use lib.ListN.{length, getD}
-use lib.IntN.{pos}
-use lib.Ieee.{Float, nan, fin, binary64, add, sub, mul, lt, le}
-use Rattle.float.specs.Constants.{nought, one}
+use lib.Ieee.{Float, nan, binary64, add, sub, mul, lt, le}
+use Rattle.float.specs.Constants.{nought, one, minusNought}
 use Rattle.moments.specs.Mixture.{getMoments}
 use Rattle.moments.specs.Figures.{listed}
 use Rattle.moments.specs.declared.Five.{Five}
@@ -15,13 +14,8 @@ use Rattle.step.specs.declared.Step.{Step}
 use Rattle.step.specs.declared.Step.the-variants.{Admitted, Inadmissible}
 use Rattle.walk.specs.Trail.{stepFor, trailFrom}
 use Rattle.walk.specs.declared.M2N.{M2N}
-use Rattle.walk.specs.declared.Outcome.{Outcome}
 use Rattle.walk.specs.declared.Outcome.the-variants.{Refused, Ended}
 use Rattle.walk.specs.declared.Walked.{Walked}
-
--- -0.0, from which a sum() starts
-abbrev pub minusNought : Float
-minusNought = fin true 0 (pos 0)
 
 -- (a - b)²
 abbrev pub squared : Float → Float → Float
