@@ -1,6 +1,7 @@
-/* The fit for C and Rust: link target/staticlib/libcapi.a, which `rt staticlib capi` writes.
+/* The fit, the bet sizes and the prices for C and Rust: link target/staticlib/libcapi.a, which `rt staticlib capi` writes.
    Every pointer comes with how many numbers it points to and is never null, not even for none;
-   what is written must overlap with nothing else that is lent. crates/capi/src/fits.rt has the contracts. */
+   what is written must overlap with nothing else that is lent. crates/capi/src/fits.rt and bets.rt have
+   the contracts. */
 #ifndef WODDIRME_H
 #define WODDIRME_H
 
@@ -29,5 +30,36 @@ uint64_t woddirme_mp_fit(
     const double *fit, size_t fit_len,
     double *rows, size_t rows_len,
     size_t *count);
+
+/* A span is live from its start until before its end: spans are starts, ends and sides, instants as
+   64-bit whole numbers, long where the side is above 0, else short. At most 16,384 spans.
+   Both functions answer 0, or the number of the refusal, and then leave all as it was. */
+
+/* How many are live at each start, in the front of `long_counts` and of `short_counts`. */
+uint64_t woddirme_get_concurrent_sides(
+    const int64_t *starts, size_t starts_len,
+    const int64_t *ends, size_t ends_len,
+    const double *sides, size_t sides_len,
+    double *long_counts, size_t long_counts_len,
+    double *short_counts, size_t short_counts_len);
+
+/* The budget size of each span, in the front of `size`. */
+uint64_t woddirme_bet_size_budget(
+    const int64_t *starts, size_t starts_len,
+    const int64_t *ends, size_t ends_len,
+    const double *sides, size_t sides_len,
+    double *size, size_t size_len);
+
+/* The mean price of the lots from `pos` to `t_pos`, at most 1,000,000: answers 0 and `*price` becomes
+   it, or the number of the refusal, and leaves `*price` as it was. */
+uint64_t woddirme_limit_price_sigmoid(double t_pos, double pos, double f, double w, double max_pos, double *price);
+
+/* The width at which a divergence of `price_div` has the size `m_bet_size`, and the market price at
+   which the size is `m_bet_size`. */
+double woddirme_get_w_sigmoid(double price_div, double m_bet_size);
+double woddirme_inv_price_sigmoid(double forecast_price, double w_param, double m_bet_size);
+
+/* The square root, rounded once: NaN at a NaN and below zero; a zero keeps its sign. */
+double woddirme_sqrt(double x);
 
 #endif

@@ -1,3 +1,4 @@
+pub mod Betting
 pub mod Fitting
 pub mod Numbers
 pub mod Several

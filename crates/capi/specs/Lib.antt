@@ -1,2 +1,3 @@
+pub mod Bets
 pub mod States
 pub mod Fits
