@@ -1,16 +1,10 @@
 //! `fit_speed`: seconds of one search on both sides in the same run, three times for each epsilon
-//! and variant, on the raw moments of a mixture with mean 0. The answers are compared too. Seconds
-//! are the processor's, since other work on the machine would show in those of a clock.
+//! and variant, on the raw moments of a mixture with mean 0. The answers are compared too.
 
-use grids::{port, rust, Ask, Left};
+use grids::{clock, port, rust, Ask, Left};
 use oracle::ef3m::M2N;
 use oracle::refusals::rows;
 use std::process::exit;
-
-extern "C" {
-    /// C's processor time of this program, in millionths of a second.
-    fn clock() -> i64;
-}
 
 const TRUTH: [f64; 5] = [-1.0, 1.0, 1.0, 0.5, 0.5];
 
@@ -46,11 +40,7 @@ fn ask(moments: &[f64], epsilon: f64, variant: usize) -> Ask {
 /// The draws are set before the clock starts: the port has its weights beforehand too.
 fn timed(side: fn(&Ask) -> Left, ask: &Ask) -> (Left, f64) {
     rust::draw(ask);
-    // It takes nothing and touches no memory of ours.
-    let now = || unsafe { clock() };
-    let begin = now();
-    let left = side(ask);
-    (left, (now() - begin) as f64 / 1e6)
+    clock::timed(|| side(ask))
 }
 
 fn main() {
