@@ -82,35 +82,45 @@ fn assemble(m: u64, g: u64) -> u64
     ensures { λ r. ⌜ Pattern (m * 2 ^ g) r ⌝ }
 {
     let odd = g % 2;
-    (g / 2 - 26) * LEAD + rounded(m * (odd + 1), guess(m, odd))
+    (g / 2 - 26) * LEAD + from_guess(m * (odd + 1), guess(m, odd))
 }
 
-// A number near the root of m * 2^(52 + odd), mostly 0, 1 or 2 below it. 1 / √x from a polynomial
-// of degree 6 for x from 1 to 2, then one step of third order. Nothing is claimed of how near.
-fn guess(m: u64, odd: u64) -> u64
+// The root of m * 2^(odd - 52), from 1 to 2, nearly always to the last digit: 1 / √x from a polynomial
+// of degree 7 for x from 1 to 2, then one step of third order from a root cut short, whose square is
+// exact. Nothing is claimed of how near.
+fn guess(m: u64, odd: u64) -> f64
     requires { ⌜ (4503599627370496 ≤ m) × (m < 9007199254740992) × (odd ≤ 1) ⌝ }
-    ensures { λ r. ⌜ (4503599627370495 ≤ r) × (r < 9007199254740992) ⌝ }
 {
     let i = m + 0x3fe0_0000_0000_0000;
     let x: f64 = f64::from_bits(i);
     let z: f64 = f64::from_bits(i + odd * LEAD);
     let o = (odd as u32) as f64;
     let a = x * x;
-    let y = (2.4683549597606547 - 3.470884421506477 * x)
-        + a * (3.6236585858951343 - 2.37809713171619 * x)
-        + a * a * ((0.94654412023698265 - 0.20934214888808596 * x) + 0.019764180119912324 * a);
+    let y = ((2.644392010558191 - 4.341982228701519 * x)
+        + a * (5.452347120671774 - 4.489424247867935 * x))
+        + (a * a)
+            * ((2.394625955209011 - 0.7994497322162724 * x)
+                + a * (0.15209007456155677 - 0.01259925083776282 * x));
     let s = y * (x * (1.0 + o * 0.41421356237309515));
     let h = y * (0.5 - o * 0.14644660940672621);
-    let d = z - s * s;
-    let t = s + d * h * (1.0 + d * (3.0 * h * h));
-    if t >= 1.0 {
-        return f64::to_bits(t) % LEAD + 0xf_ffff_ffff_ffff;
-    }
-    LEAD
+    let r = (s + 402653184.0) - 402653184.0;
+    let d = z - r * r;
+    r + (d * h) * ((1.0 - (h + h) * (s - r)) + d * (3.0 * h * h))
 }
 
-// The root of n * 2^52, rounded, from a guess q that is checked: n * 2^52 - q * q in two steps, by
-// the halves of q. Where the guess is far off, digit by digit.
+// The root of n * 2^52, rounded, from a guess of its digits that is checked.
+fn from_guess(n: u64, t: f64) -> u64
+    requires { ⌜ (4503599627370496 ≤ n) × (n < 18014398509481983) ⌝ }
+    ensures { λ r. ⌜ Rounded n r ⌝ }
+{
+    if t >= 1.0 {
+        return rounded(n, f64::to_bits(t) % LEAD + 0xf_ffff_ffff_ffff);
+    }
+    by_digits(n)
+}
+
+// The root of n * 2^52, rounded: q + 1 where that is seen from n * 2^52 - q * q, worked out in two
+// steps, by the halves of q; otherwise digit by digit. The processor goes on with q + 1 meanwhile.
 fn rounded(n: u64, q: u64) -> u64
     requires { ⌜ (4503599627370496 ≤ n) × (n < 18014398509481983) × (4503599627370495 ≤ q) × (q < 9007199254740992) ⌝ }
     ensures { λ r. ⌜ Rounded n r ⌝ }
@@ -130,14 +140,23 @@ fn rounded(n: u64, q: u64) -> u64
                     let g = f * 134217728;
                     if c <= g {
                         let y = g - c;
-                        if y <= q * 5 + 6 {
-                            return settle(n, q, y);
+                        if y > q {
+                            if y <= q * 3 + 2 {
+                                return q + 1;
+                            }
                         }
                     }
                 }
             }
         }
     }
+    by_digits(n)
+}
+
+fn by_digits(n: u64) -> u64
+    requires { ⌜ (4503599627370496 ≤ n) × (n < 18014398509481983) ⌝ }
+    ensures { λ r. ⌜ Rounded n r ⌝ }
+{
     let w = whole_root(n);
     settle(n, w.q, w.rest)
 }

@@ -11,25 +11,25 @@ sub-result c = search needs
 mul-result : tie.Need-mul-result
 mul-result c = search needs
 
-add-rounded : tie.Need-add-rounded
-add-rounded c = search needs
+add-from-guess : tie.Need-add-from-guess
+add-from-guess c = search needs
 
-mul-rounded : tie.Need-mul-rounded
-mul-rounded c = omega (arith, doubled-in (c .args .m) (c .args .g))
+mul-from-guess : tie.Need-mul-from-guess
+mul-from-guess c = omega (arith, doubled-in (c .args .m) (c .args .g))
 
 guess-requires : tie.Need-guess-requires
 guess-requires c κs = search needs
 
-rounded-requires : tie.Need-rounded-requires
-rounded-requires c κs =
+from-guess-requires : tie.Need-from-guess-requires
+from-guess-requires c κs =
     let d = doubled-in (c .before .args .m) (c .before .args .g) in
-    (omega arith, omega arith, omega arith, omega arith)
+    (omega arith, omega arith)
 
 add-result : tie.Need-add-result
 add-result c = search needs
 
 returns : tie.Need-returns
-returns c = assembled _ _ _ (omega arith) (omega arith) (omega arith) (omega arith) (c .rounded .ensures)
+returns c = assembled _ _ _ (omega arith) (omega arith) (omega arith) (omega arith) (c .from-guess .ensures)
 
 pub assemble-spec : {M : Type 1} → statement M
 assemble-spec =
@@ -37,9 +37,9 @@ assemble-spec =
     (tie.spec
     sub-result
     mul-result
-    add-rounded
-    mul-rounded
+    add-from-guess
+    mul-from-guess
     guess-requires
-    rounded-requires
+    from-guess-requires
     add-result
     returns)

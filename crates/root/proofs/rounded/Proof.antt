@@ -3,7 +3,7 @@ use Prim.Native.Nat.{_/_, _%_, _≤_}
 use native.Mathlib.Nat.{mul-le-mul}
 use native.Mathlib.Omega.{arith}
 use borrow.Author.Needs.{needs}
-use Rattle.root.proofs.Checked.{checked}
+use Rattle.root.proofs.Checked.{checked, next}
 use Rattle.root.proofs.rounded.Statement.{statement}
 use Rattle.root.proofs.rounded.Tie as tie
 
@@ -40,30 +40,31 @@ mul-c c =
 mul-g : tie.Need-mul-g
 mul-g c = search needs
 
-mul-if6 : tie.Need-mul-if6
-mul-if6 c = search needs
+mul-if7 : tie.Need-mul-if7
+mul-if7 c = search needs
 
-add-if6 : tie.Need-add-if6
-add-if6 c = search needs
+add-if7 : tie.Need-add-if7
+add-if7 c = search needs
 
-settle-requires : tie.Need-settle-requires
-settle-requires c κs = record {
-  sum = checked _ _ (c .before .before .before .before .before .if1 .taken) (c .before .before .before .if3 .taken) (c .before .if5 .taken);
-  small = omega arith;
-  some = omega arith;
-  high = omega arith;
-  least = omega arith;
-  most = omega arith;
-}
+add-result : tie.Need-add-result
+add-result c = search needs
 
 returns : tie.Need-returns
-returns c = search needs
+returns c =
+    next _ _ _
+    (record {
+      sum = checked _ _ (c .before .before .before .before .before .before .if1 .taken) (c .before .before .before .before .if3 .taken) (c .before .before .if5 .taken);
+      small = omega arith;
+      some = omega arith;
+      high = omega arith;
+      least = omega arith;
+      most = omega arith;
+    })
+    (c .before .if6 .taken)
+    (c .if7 .taken)
 
-whole-root-requires : tie.Need-whole-root-requires
-whole-root-requires c κs = search needs
-
-settle-requires-2 : tie.Need-settle-requires-2
-settle-requires-2 c κs = search needs
+by-digits-requires : tie.Need-by-digits-requires
+by-digits-requires c κs = search needs
 
 returns-2 : tie.Need-returns-2
 returns-2 c = search needs
@@ -79,10 +80,9 @@ rounded-spec =
     mul-e
     mul-c
     mul-g
-    mul-if6
-    add-if6
-    settle-requires
+    mul-if7
+    add-if7
+    add-result
     returns
-    whole-root-requires
-    settle-requires-2
+    by-digits-requires
     returns-2)
