@@ -44,22 +44,13 @@ stay n q y s h = rounded-by n q y q s (one (n * 4503599627370496) q y (s .sum) (
     two : (s q y : ℕ) → y + q * q ≡ s → y ≤ q → s ≤ q * q + q
     two s q y e h = omega arith
 
-pub next : (n q y : ℕ) → Near n q y → q < y → y ≤ q * 3 + 2 → Rounded n (q + 1)
-next n q y s h k = rounded-by n q y (q + 1) s (one (n * 4503599627370496) q y (s .sum) h) (two (n * 4503599627370496) q y (s .sum) k)
+pub next : (n q y : ℕ) → Near n q y → q < y → Rounded n (q + 1)
+next n q y s h = rounded-by n q y (q + 1) s (one (n * 4503599627370496) q y (s .sum) h) (two (n * 4503599627370496) q y (s .sum) (s .small))
   where
     one : (s q y : ℕ) → y + q * q ≡ s → q < y → (q + 1) * (q + 1) + 1 ≤ s + (q + 1)
     one s q y e l = omega arith
 
-    two : (s q y : ℕ) → y + q * q ≡ s → y ≤ q * 3 + 2 → s ≤ (q + 1) * (q + 1) + (q + 1)
-    two s q y e h = omega arith
-
-pub after : (n q y : ℕ) → Near n q y → q * 3 + 2 < y → Rounded n (q + 2)
-after n q y s h = rounded-by n q y (q + 2) s (one (n * 4503599627370496) q y (s .sum) h) (two (n * 4503599627370496) q y (s .sum) (s .small))
-  where
-    one : (s q y : ℕ) → y + q * q ≡ s → q * 3 + 2 < y → (q + 2) * (q + 2) + 1 ≤ s + (q + 2)
-    one s q y e l = omega arith
-
-    two : (s q y : ℕ) → y + q * q ≡ s → y ≤ 5 * q + 6 → s ≤ (q + 2) * (q + 2) + (q + 2)
+    two : (s q y : ℕ) → y + q * q ≡ s → y ≤ 3 * q + 2 → s ≤ (q + 1) * (q + 1) + (q + 1)
     two s q y e h = omega arith
 
 -- ---- a rounded root is the whole root, or one more

@@ -13,10 +13,10 @@ pub record Whole (n q rest : ℕ) : Type 0 where
   pub low : 4503599627370496 ≤ q
   pub high : q < 9007199254740992
 
--- q is the root of n * 2 ^ 52, rounded, or 1 or 2 below it, and rest is what is left
+-- q is the root of n * 2 ^ 52, rounded, or 1 below it, and rest is what is left
 pub record Near (n q rest : ℕ) : Type 0 where
   pub sum : rest + q * q ≡ n * 4503599627370496
-  pub small : rest ≤ 5 * q + 6
+  pub small : rest ≤ 3 * q + 2
   pub some : 1 ≤ q
   pub high : q < 9007199254740992
   pub least : 4503599627370496 ≤ n

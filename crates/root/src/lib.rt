@@ -161,14 +161,11 @@ fn by_digits(n: u64) -> u64
     settle(n, w.q, w.rest)
 }
 
-// The rounded root, from a q that is at most 2 below it, and what is left.
+// The rounded root, from a q that is at most 1 below it, and what is left.
 fn settle(n: u64, q: u64, y: u64) -> u64
     requires { ⌜ Near n q y ⌝ }
     ensures { λ r. ⌜ Rounded n r ⌝ }
 {
-    if y > q * 3 + 2 {
-        return q + 2;
-    }
     if y > q {
         return q + 1;
     }

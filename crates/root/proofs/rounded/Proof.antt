@@ -61,7 +61,6 @@ returns c =
       most = omega arith;
     })
     (c .before .if6 .taken)
-    (c .if7 .taken)
 
 by-digits-requires : tie.Need-by-digits-requires
 by-digits-requires c κs = search needs
