@@ -2,6 +2,7 @@
 //! the counts, the budget and the limit price over more spans and lots than fit one.
 
 pub mod ask;
+pub mod cases;
 pub mod clock;
 pub mod port;
 pub mod prices;

@@ -11,12 +11,7 @@ const FINEST: f64 = 1.0 / 131073.0;
 const BEYOND: f64 = 1.0 / 131074.0;
 const NEVER: usize = 77;
 
-pub struct Case {
-    pub name: String,
-    pub ask: Ask,
-    /// The number that the port must refuse by; 0 where the Rust is asked too.
-    pub refusal: u64,
-}
+pub type Case = grids::cases::Case<Ask>;
 
 /// How the target moments are made.
 #[derive(Clone, Copy)]

@@ -7,12 +7,7 @@ use grids::spans::{Ask, Lent};
 /// The most spans that are taken.
 const MOST: usize = 16384;
 
-pub struct Case {
-    pub name: String,
-    pub ask: Ask,
-    /// The number that the port must refuse by; 0 where the Rust is asked too.
-    pub refusal: u64,
-}
+pub type Case = grids::cases::Case<Ask>;
 
 #[derive(Clone, Copy)]
 enum Kind {
