@@ -79,7 +79,8 @@ module _ (s e x y : List ℕ) (m : ℕ) (hs : m ≤ length s) (he : m ≤ length
   nettable few room = record {
     starts = subst Sorted (sym (front-of s x m hs kx)) (p .sorted);
     ends = subst Sorted (sym (front-of e y m he ky)) (q .sorted);
-    few = omega (arith, ap length (front-of s x m hs kx), kx, length-take-le m s hs);
+    few-starts = omega (arith, ap length (front-of s x m hs kx), kx, length-take-le m s hs);
+    few-ends = omega (arith, ap length (front-of e y m he ky), ky, length-take-le m e he);
     room = room;
   }
 

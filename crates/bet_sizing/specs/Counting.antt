@@ -60,11 +60,12 @@ pub record Collected (long : Bool) (ss es : List ℤ) (ds : List Float) (s e : L
 abbrev pub net : List ℕ → List ℕ → ℤ → ℕ
 net s e t = rank (keyOf t) s - rank (keyOf t) e
 
--- sorted keys, and room for the counts
+-- sorted keys, few enough, and room for the counts
 pub record Nettable (ss : List ℤ) (s e : List ℕ) (out : List Float) : Type 0 where
   pub starts : Sorted s
   pub ends : Sorted e
-  pub few : length s ≤ 16384
+  pub few-starts : length s ≤ 16384
+  pub few-ends : length e ≤ 16384
   pub room : length ss ≤ length out
 
 -- the net counts at each start, then what was there; and the largest of them

@@ -36,16 +36,16 @@ key-requires : tie.Need-key-requires Inv-loop μ-loop
 key-requires c κs = tt
 
 rank-of-requires : tie.Need-rank-of-requires Inv-loop μ-loop
-rank-of-requires c κs = c .before .before .before .before .before .before .before .pre .starts
+rank-of-requires c κs = let s = c .before .before .before .before .before .before .before in (s .pre .starts, s .pre .few-starts)
 
 rank-of-requires-2 : tie.Need-rank-of-requires-2 Inv-loop μ-loop
-rank-of-requires-2 c κs = c .before .before .before .before .before .before .before .before .pre .ends
+rank-of-requires-2 c κs = let s = c .before .before .before .before .before .before .before .before in (s .pre .ends, s .pre .few-ends)
 
 saturating-sub-requires : tie.Need-saturating-sub-requires Inv-loop μ-loop
 saturating-sub-requires c κs = tt
 
 cast-c : tie.Need-cast-c Inv-loop μ-loop
-cast-c c = omega (arith, c .saturating-sub .ensures, c .before .before .rank-of .ensures, rank-le (c .before .before .before .key .result) (c .before .before .before .before .before .before .before .before .before .before .args .s .now), c .before .before .before .before .before .before .before .before .before .before .pre .few)
+cast-c c = omega (arith, c .saturating-sub .ensures, c .before .before .rank-of .ensures, rank-le (c .before .before .before .key .result) (c .before .before .before .before .before .before .before .before .before .before .args .s .now), c .before .before .before .before .before .before .before .before .before .before .pre .few-starts)
 
 int-to-float-out : tie.Need-int-to-float-out Inv-loop μ-loop
 int-to-float-out c = tt
