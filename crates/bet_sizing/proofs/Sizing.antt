@@ -23,7 +23,7 @@ share-some c (suc m) h = refl
 pub size-step : (ss es : List ℤ) (ds long short : List Float) (a b : ℕ) (old : List Float) (i : ℕ) {x y : Float} → Sizeable ss es ds long short a b old → i < length ss → x ≡ share (getD long i nan) a → y ≡ share (getD short i nan) b → sub binary64 x y ≡ budgetSize ss es ds (getD ss i (pos 0))
 size-step ss es ds long short a b old i h l e f = cc (h .longs i l, h .shorts i l, h .top-long, h .top-short)
 
-map-at : (f : ℤ → Float) (ss : List ℤ) (rest : List Float) (i : ℕ) → i < length ss → getD (map f ss ++ rest) i nan ≡ f (getD ss i (pos 0))
+pub map-at : (f : ℤ → Float) (ss : List ℤ) (rest : List Float) (i : ℕ) → i < length ss → getD (map f ss ++ rest) i nan ≡ f (getD ss i (pos 0))
 map-at f [] rest i h = absurd (omega arith)
 map-at f (s ∷ ss) rest zero h = refl
 map-at f (s ∷ ss) rest (suc i) h = map-at f ss rest i (omega arith)

@@ -2,5 +2,7 @@
 pub mod Digits
 pub mod Floats
 pub mod Placing
+pub mod Shorter
 pub mod Signs
+pub mod Spelling
 pub mod Steps

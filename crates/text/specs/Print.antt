@@ -1,5 +1,5 @@
 -- Numbers as they are printed, and a buffer with a text in it. `digits b k n` is the last k digits of n in base b. Definitions only.
-use Prim.Native.Nat.{ℕ, zero, suc, _+_, _/_}
+use Prim.Native.Nat.{ℕ, zero, suc, _+_, _/_, _≤_}
 use mathlib.Core.Path.{_≡_}
 use mathlib.Core.Bool.{cond}
 use mathlib.Core.List.{List, _++_}
@@ -38,3 +38,8 @@ placeAfter o at t = cond (leb (at + length t) (length o)) (at + length t) at
 pub record Placed (o o′ : List ℕ) (at r : ℕ) (t : List ℕ) : Type 0 where
   pub is : o′ ≡ placed o at t
   pub next : r ≡ placeAfter o at t
+
+-- t is at the front of o, up to r
+pub record Fronts (o : List ℕ) (r : ℕ) (t : List ℕ) : Type 0 where
+  pub within : r ≤ length o
+  pub is : take r o ≡ t

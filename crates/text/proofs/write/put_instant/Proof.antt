@@ -11,9 +11,9 @@ use lib.Signed.{_≤ℤ_}
 use mir.Syntax.{w64}
 use mir.ValLaws.{toZ-ofZ}
 use Rattle.text.specs.Bytes.{bytes}
-use Rattle.text.specs.Print.{decimal}
+use Rattle.text.specs.Print.{Fronts, decimal}
 use Rattle.text.proofs.Digits.{decimal-short}
-use Rattle.text.proofs.Placing.{placed-then, Fronts, fronts}
+use Rattle.text.proofs.Placing.{placed-then, fronts}
 use Rattle.text.proofs.Signs.{under-bound, shown-under, not-less, over-yes, over-fits, shown-over}
 use Rattle.text.proofs.write.put_instant.Statement.{statement}
 use Rattle.text.proofs.write.put_instant.Tie as tie

@@ -1,0 +1,116 @@
+-- The loops over a sheet's lines: what is known with n lines read, up to the place i. A line takes a byte at least, so the loops go on. Assumes nothing.
+use Prim.Native.Nat.{ℕ, zero, suc, _+_, _-_, _≤_, _<_}
+use mathlib.Core.Path.{_≡_, refl, _∙_}
+use mathlib.Core.List.{List, [], _∷_, _++_, append-assoc, append-nil}
+use native.Mathlib.Omega.{arith}
+use native.Mathlib.Numerals.{add-one}
+use borrow.Author.Tests.{le-ltb, lt-ltb}
+use lib.ListN.{length, drop, getD, drop-of-length-le, length-append, length-drop}
+use lib.Seq.{drop-cons}
+use Rattle.text.specs.Bytes.{bytes}
+use Rattle.text.specs.Decode.{got, bad, word, instant, hexes}
+use Rattle.text.proofs.Shorter.{Leaves, leaves-le, leaves-then, leaves-word, leaves-instant, leaves-hexes, leaves-first}
+use Rattle.sheet.specs.declared.forms.Span.{Span}
+use Rattle.sheet.specs.Forms.{spanForm, lineForm}
+use Rattle.sheet.specs.Sheet.{Lines, spans, wrong, also, onward, lines, sheet, accepted, refused, refusedAt}
+
+-- ---- the place after a line is past the place where it starts
+leaves-span : (b : ℕ) (s : List ℕ) → Leaves (length s) (spanForm (b ∷ s))
+unfolding spanForm
+leaves-span b s =
+    leaves-then (length s) (word (bytes "(span (from ") (b ∷ s)) _ (leaves-first _ _ b s) λ _ s₁ l₁.
+    leaves-then (length s) (instant s₁) _ (leaves-le (instant s₁) l₁ (leaves-instant s₁)) λ x s₂ l₂.
+    leaves-then (length s) (word (bytes ") (to ") s₂) _ (leaves-le (word (bytes ") (to ") s₂) l₂ (leaves-word _ s₂)) λ _ s₃ l₃.
+    leaves-then (length s) (instant s₃) _ (leaves-le (instant s₃) l₃ (leaves-instant s₃)) λ y s₄ l₄.
+    leaves-then (length s) (word (bytes ") (side ") s₄) _ (leaves-le (word (bytes ") (side ") s₄) l₄ (leaves-word _ s₄)) λ _ s₅ l₅.
+    leaves-then (length s) (hexes 16 0 s₅) _ (leaves-le (hexes 16 0 s₅) l₅ (leaves-hexes 16 0 s₅)) λ z s₆ l₆.
+    leaves-then (length s) (word (bytes "))") s₆) _ (leaves-le (word (bytes "))") s₆) l₆ (leaves-word _ s₆)) λ _ s₇ l₇.
+    l₇
+
+leaves-line : (b : ℕ) (s : List ℕ) → Leaves (length s) (lineForm (b ∷ s))
+unfolding lineForm
+leaves-line b s =
+    leaves-then (length s) (spanForm (b ∷ s)) _ (leaves-span b s) λ a s₁ l₁.
+    leaves-then (length s) (word (bytes "\n") s₁) _ (leaves-le (word (bytes "\n") s₁) l₁ (leaves-word _ s₁)) λ _ s₂ l₂.
+    l₂
+
+pub further : (s : List ℕ) (i k : ℕ) (a : Span) → i < length s → lineForm (drop i s) ≡ got a (drop k s) → i < k
+further s i k a h e =
+    let l : Leaves (length (drop (suc i) s)) (lineForm (getD s i 0 ∷ drop (suc i) s)) = leaves-line (getD s i 0) (drop (suc i) s) in
+    let m : length (drop k s) ≤ length (drop (suc i) s) = rw (← drop-cons s i 0 h, e) at l in
+    omega (arith, m, length-drop k s, length-drop (suc i) s)
+
+-- ---- the spans l, and then what the lines after them are
+abbrev pub prepend : List Span → Lines → Lines
+prepend l (spans m) = spans (l ++ m)
+prepend l (wrong n) = wrong n
+
+pub prepend-none : (g : Lines) → g ≡ prepend [] g
+prepend-none (spans l) = refl
+prepend-none (wrong n) = refl
+
+pub prepend-also : (l : List Span) (a : Span) (g : Lines) → prepend l (also a g) ≡ prepend (l ++ (a ∷ [])) g
+prepend-also l a (spans m) = rw append-assoc
+prepend-also l a (wrong n) = refl
+
+lines-end : (k n : ℕ) → lines k n [] ≡ spans []
+unfolding lines
+lines-end zero n = refl
+lines-end (suc k) n = refl
+
+lines-more : (k n : ℕ) (s : List ℕ) (i : ℕ) → i < length s → lines (suc k) n (drop i s) ≡ onward n (lines k (suc n)) (lineForm (drop i s))
+unfolding lines
+lines-more k n s i h = rw (drop-cons s i 0 h)
+
+-- ---- with n lines read
+pub record Going (s : List ℕ) (i n : ℕ) : Type 0 where
+  pub done : List Span
+  pub size : length done ≡ n
+  pub ahead : n ≤ i
+  pub rest : lines (length s) 1 s ≡ prepend done (lines (length s - n) (n + 1) (drop i s))
+
+unfoldable pub start : (s : List ℕ) → Going s 0 0
+start s =
+    let p : length s - 0 ≡ length s = omega arith in
+    record { done = []; size = refl; ahead = omega arith; rest = rw p (prepend-none (lines (length s) 1 s)) }
+
+module _ (s : List ℕ) (i n : ℕ) (g : Going s i n) where
+  pub turn : i < length s → lines (length s) 1 s ≡ prepend (g .done) (onward (n + 1) (lines (length s - (n + 1)) (suc (n + 1))) (lineForm (drop i s)))
+  turn h =
+      let p : length s - n ≡ suc (length s - (n + 1)) = omega (arith, g .ahead) in
+      g .rest ∙ rw (p, lines-more (length s - (n + 1)) (n + 1) s i h)
+
+  -- one more
+  unfoldable pub more : (a : Span) (k : ℕ) → i < length s → lineForm (drop i s) ≡ got a (drop k s) → Going s k (n + 1)
+  more a k h e = record {
+    done = g .done ++ (a ∷ []);
+    size = rw length-append (omega (arith, g .size));
+    ahead = omega (arith, further s i k a h e, g .ahead);
+    rest = turn h ∙ rw (e, add-one (n + 1)) (prepend-also (g .done) a (lines (length s - (n + 1)) (suc (n + 1)) (drop k s)));
+  }
+
+  -- the first that is none
+  pub fault : i < length s → lineForm (drop i s) ≡ bad → lines (length s) 1 s ≡ wrong (n + 1)
+  fault h e = turn h ∙ rw e
+
+  -- the end
+  pub whole : length s ≤ i → lines (length s) 1 s ≡ spans (g .done)
+  whole h = g .rest ∙ rw (drop-of-length-le s h, lines-end, append-nil)
+
+-- ---- what the lines say of the sheet
+module _ (s : List ℕ) where
+  pub sheet-long : 65536 < length s → sheet s ≡ refused 11
+  unfolding sheet
+  sheet-long h = rw (lt-ltb _ _ h)
+
+  pub sheet-wrong : (n : ℕ) → length s ≤ 65536 → lines (length s) 1 s ≡ wrong n → sheet s ≡ refusedAt 15 n
+  unfolding sheet
+  sheet-wrong n h e = rw (le-ltb _ _ h, e)
+
+  pub sheet-many : (l : List Span) → length s ≤ 65536 → lines (length s) 1 s ≡ spans l → 1024 < length l → sheet s ≡ refused 11
+  unfolding sheet
+  sheet-many l h e m = rw (le-ltb _ _ h, e, lt-ltb _ _ m)
+
+  pub sheet-good : (l : List Span) → length s ≤ 65536 → lines (length s) 1 s ≡ spans l → length l ≤ 1024 → sheet s ≡ accepted l
+  unfolding sheet
+  sheet-good l h e m = rw (le-ltb _ _ h, e, le-ltb _ _ m)

@@ -1,0 +1,60 @@
+// A sheet as a whole, bytes in to bytes out.
+ghost use Prim.Native.Nat.{_≤_};
+ghost use lib.ListN.{length};
+ghost use Rattle.text.specs.Print.{Fronts, Placed};
+ghost use Rattle.sheet.specs.CountSheet.{countSheet, refusal, refusalAt};
+use crate::reading;
+use crate::reading::Sheet;
+use crate::rows;
+
+fn put_refusal(out: &mut [u8], number: u64) -> usize
+    requires { ⌜ 131072 ≤ length (now out) ⌝ }
+    ensures { λ r. ⌜ Fronts (now (out .exit)) r (refusal number) ⌝ }
+{
+    let a = text::put(out, 0, b"(refused ");
+    let b = text::put_decimal(out, a, number);
+    text::put(out, b, b")\n")
+}
+
+fn put_refusal_at(out: &mut [u8], number: u64, line: usize) -> usize
+    requires { ⌜ 131072 ≤ length (now out) ⌝ }
+    ensures { λ r. ⌜ Fronts (now (out .exit)) r (refusalAt number line) ⌝ }
+{
+    let a = text::put(out, 0, b"(refused ");
+    let b = text::put_decimal(out, a, number);
+    let c = text::put(out, b, b" ");
+    let d = text::put_decimal(out, c, line as u64);
+    text::put(out, d, b")\n")
+}
+
+// Puts a sheet's answer at the front of out, which has room for 1,024 rows of 128 bytes.
+fn put_answer(s: &[u8], out: &mut [u8]) -> usize
+    requires { ⌜ 131072 ≤ length (now out) ⌝ }
+    ensures { λ r. ⌜ Fronts (now (out .exit)) r (countSheet (now (s .entry))) ⌝ }
+{
+    let mut starts = [0i64; 1024];
+    let mut ends = [0i64; 1024];
+    let mut sides = [0.0f64; 1024];
+    let r = reading::read_sheet(s, &mut starts, &mut ends, &mut sides);
+    match r {
+        Sheet::Accepted(n) => {
+            return rows::put(&starts[..n], &ends[..n], &sides[..n], out);
+        }
+        Sheet::Refused(number) => {
+            return put_refusal(out, number);
+        }
+        Sheet::RefusedAt(number, line) => {
+            return put_refusal_at(out, number, line);
+        }
+    }
+}
+
+// Puts the answer to the sheet s at the front of out and tells its length: the rows, or the one
+// line that refuses it. Where out has too little room it stays as it is, and the answer is 0.
+pub fn count_sheet(s: &[u8], out: &mut [u8]) -> usize
+    ensures { λ r. ⌜ Placed (now (out .entry)) (now (out .exit)) 0 r (countSheet (now (s .entry))) ⌝ }
+{
+    let mut room = [0u8; 131072];
+    let n = put_answer(s, &mut room);
+    text::put(out, 0, &room[..n])
+}
