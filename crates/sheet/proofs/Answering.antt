@@ -15,7 +15,7 @@ use Rattle.sheet.specs.Meaning.{Countable, Fillable, SheetRead, answerOf
 use Rattle.sheet.specs.CountSheet.{countSheet, printed, refusal, refusalAt}
 use Rattle.sheet.specs.Rows.{rowLines}
 use Rattle.sheet.specs.Sheet.{Reading, accepted, refused, refusedAt, sheet}
-use Rattle.sheet.proofs.Filling.{accepted-lines}
+use Rattle.sheet.proofs.Going.{accepts}
 
 no : {A : Type 0} → _≡_ {A = ℕ} 0 1 → A
 no e = absurd (omega arith)
@@ -121,7 +121,7 @@ module _ {s : List ℕ} {a a′ b b′ : List ℤ} {c c′ : List Float} {r : Sh
   roomy = by (sheet s) refl
     where
       by : (g : Reading) → sheet s ≡ g → roomFor (min (length a) (min (length b) (length c))) g ≡ g
-      by (accepted l) p = rw (le-ltb (min (length a) (min (length b) (length c))) (length l) (omega (arith, ha, hb, hc, accepted-lines s l p .1)))
+      by (accepted l) p = rw (le-ltb (min (length a) (min (length b) (length c))) (length l) (omega (arith, ha, hb, hc, accepts l s p .few-lines)))
       by (refused k) p = refl
       by (refusedAt k line) p = refl
 
@@ -145,7 +145,7 @@ module _ {s : List ℕ} {a a′ b b′ : List ℤ} {c c′ : List Float} {r : Sh
       let d = was-accepted s n (sym e ∙ answer) in
       record {
         read = d;
-        few = omega (arith, d .size, accepted-lines s (d .spans) (d .is) .1);
+        few = omega (arith, d .size, accepts (d .spans) s (d .is) .few-lines);
         starts = front fromOf (d .spans) n a a′ (d .size) (d .is) (t .starts);
         ends = front toOf (d .spans) n b b′ (d .size) (d .is) (t .ends);
         sides = front sideOf (d .spans) n c c′ (d .size) (d .is) (t .sides);

@@ -1,12 +1,9 @@
 -- The spans of an accepted sheet in three lists, as they are taken: each list has one law, over the field that it holds. Assumes nothing.
 use Prim.Native.Nat.{ℕ, _+_, _-_, _≤_, _<_}
 use mathlib.Core.Path.{_≡_, refl, sym, _∙_, ap}
-use mathlib.Core.Bool.{Bool, cond, true, false}
-use mathlib.Core.List.{List, [], _∷_, _++_, append-assoc, map, map-append}
+use mathlib.Core.List.{List, [], _∷_, _++_, map, map-append}
 use native.Mathlib.Omega.{arith}
 use native.Mathlib.Numerals.{add-one}
-use borrow.Author.Tests.{ltb-false}
-use lib.Dec.{ltb}
 use lib.IntN.{ℤ}
 use lib.Ieee.{Float}
 use lib.ListN.{length, take, drop, set, length-append, length-set, take-append-drop}
@@ -15,25 +12,11 @@ use Rattle.text.specs.Decode.{got, bad}
 use Rattle.sheet.specs.declared.forms.Span.{Span}
 use Rattle.sheet.specs.Forms.{lineForm}
 use Rattle.sheet.specs.Meaning.{fromOf, toOf, sideOf, Fillable, heldBy}
-use Rattle.sheet.specs.Sheet.{Lines, spans, wrong, lines, limited, Reading, accepted, refused, refusedAt, sheet}
-use Rattle.sheet.proofs.Going.{Going, start, more, fault, whole, prepend}
+use Rattle.sheet.specs.Sheet.{Lines, spans, wrong, lines, accepted, sheet}
+use Rattle.sheet.proofs.Going.{Going, accepts, start, more, fault, whole, prepend}
 
 no : {A : Type 0} → _≡_ {A = ℕ} 0 1 → A
 no e = absurd (omega arith)
-
--- ---- an accepted sheet's lines are its spans, and few
-counted : (m l : List Span) (b : Bool) → (b ≡ false → length m ≤ 1024) → cond b (refused 11) (accepted m) ≡ accepted l → (m ≡ l) × (length l ≤ 1024)
-counted m l true f e = no cc
-counted m l false f e = let p : m ≡ l = cc in (p, rw p at (f refl))
-
-cases : (b : Bool) (g : Lines) (l : List Span) → cond b (refused 11) (limited g) ≡ accepted l → (g ≡ spans l) × (length l ≤ 1024)
-cases true g l e = no cc
-cases false (wrong n) l e = no cc
-cases false (spans m) l e = let p = counted m l (ltb 1024 (length m)) (ltb-false 1024 (length m)) e in (ap spans (p .0), p .1)
-
-pub accepted-lines : (s : List ℕ) (l : List Span) → sheet s ≡ accepted l → (lines (length s) 1 s ≡ spans l) × (length l ≤ 1024)
-unfolding sheet
-accepted-lines s l e = cases (ltb 65536 (length s)) (lines (length s) 1 s) l e
 
 -- ---- one list: after the spans d, a field of each in front, and past them what was there
 module _ {A : Type 0} (f : Span → A) where
@@ -81,7 +64,7 @@ module _ (s : List ℕ) (i n : ℕ) (a a′ b b′ : List ℤ) (c c′ : List Fl
   -- at the end
   pub filled : (p : Fillable s a b c) → length s ≤ i → heldBy (sheet s) a a′ b b′ c c′
   filled p h =
-      let e : f .going .done ≡ p .read = cc (whole s i n (f .going) h, accepted-lines s (p .read) (p .is) .0) in
+      let e : f .going .done ≡ p .read = cc (whole s i n (f .going) h, accepts (p .read) s (p .is) .is) in
       let z = f .going .size in
       rw (p .is, ← e) (record {
         starts = held-all fromOf (f .going .done) n a a′ z (f .starts);
@@ -91,7 +74,7 @@ module _ (s : List ℕ) (i n : ℕ) (a a′ b b′ : List ℤ) (c c′ : List Fl
 
 -- no line of an accepted sheet is at fault
 pub faultless : {A : Type 0} (s : List ℕ) (i n : ℕ) (l : List Span) → Going s i n → sheet s ≡ accepted l → i < length s → lineForm (drop i s) ≡ bad → A
-faultless s i n l g o h e = no (cc (fault s i n g h e, accepted-lines s l o .0))
+faultless s i n l g o h e = no (cc (fault s i n g h e, accepts l s o .is))
 
 -- and there is room for each
 prepend-length : (d : List Span) (g : Lines) (l : List Span) → prepend d g ≡ spans l → length d ≤ length l
@@ -102,4 +85,4 @@ prepend-length d (wrong n) l e = no cc
 
 pub room : (s : List ℕ) (i n : ℕ) (l : List Span) → Going s i n → sheet s ≡ accepted l → n ≤ length l
 room s i n l g o =
-    omega (arith, prepend-length (g .done) (lines (length s - n) (n + 1) (drop i s)) l (sym (g .rest) ∙ accepted-lines s l o .0), g .size)
+    omega (arith, prepend-length (g .done) (lines (length s - n) (n + 1) (drop i s)) l (sym (g .rest) ∙ accepts l s o .is), g .size)

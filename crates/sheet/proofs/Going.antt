@@ -1,10 +1,12 @@
 -- The loops over a sheet's lines: what is known with n lines read, up to the place i. A line takes a byte at least, so the loops go on. Assumes nothing.
 use Prim.Native.Nat.{ℕ, zero, suc, _+_, _-_, _≤_, _<_}
 use mathlib.Core.Path.{_≡_, refl, _∙_}
+use mathlib.Core.Bool.{Bool, cond, true, false}
 use mathlib.Core.List.{List, [], _∷_, _++_, append-assoc, append-nil}
 use native.Mathlib.Omega.{arith}
 use native.Mathlib.Numerals.{add-one}
-use borrow.Author.Tests.{le-ltb, lt-ltb}
+use borrow.Author.Tests.{le-ltb, lt-ltb, ltb-false}
+use lib.Dec.{ltb}
 use lib.ListN.{length, drop, getD, drop-of-length-le, length-append, length-drop}
 use lib.Seq.{drop-cons}
 use Rattle.text.specs.Bytes.{bytes}
@@ -12,7 +14,7 @@ use Rattle.text.specs.Decode.{got, bad, word, instant, hexes}
 use Rattle.text.proofs.Shorter.{Leaves, leaves-le, leaves-then, leaves-word, leaves-instant, leaves-hexes, leaves-first}
 use Rattle.sheet.specs.declared.forms.Span.{Span}
 use Rattle.sheet.specs.Forms.{spanForm, lineForm}
-use Rattle.sheet.specs.Sheet.{Lines, spans, wrong, also, onward, lines, sheet, accepted, refused, refusedAt}
+use Rattle.sheet.specs.Sheet.{Lines, spans, wrong, also, onward, lines, limited, Reading, sheet, accepted, refused, refusedAt}
 
 -- ---- the place after a line is past the place where it starts
 leaves-span : (b : ℕ) (s : List ℕ) → Leaves (length s) (spanForm (b ∷ s))
@@ -114,3 +116,31 @@ module _ (s : List ℕ) where
   pub sheet-good : (l : List Span) → length s ≤ 65536 → lines (length s) 1 s ≡ spans l → length l ≤ 1024 → sheet s ≡ accepted l
   unfolding sheet
   sheet-good l h e m = rw (le-ltb _ _ h, e, le-ltb _ _ m)
+
+-- and what an accepted sheet says of its lines
+pub record Accepts (s : List ℕ) (l : List Span) : Type 0 where
+  pub is : lines (length s) 1 s ≡ spans l
+  pub few-lines : length l ≤ 1024
+  pub few-bytes : length s ≤ 65536
+
+no : {A : Type 0} → _≡_ {A = ℕ} 0 1 → A
+no e = absurd (omega arith)
+
+module _ (l : List Span) where
+  unless : (b : Bool) (n : ℕ) (g : Reading) → cond b (refused n) g ≡ accepted l → (b ≡ false) × (g ≡ accepted l)
+  unless true n g e = no cc
+  unless false n g e = (refl, e)
+
+  few : (g : Lines) → limited g ≡ accepted l → (g ≡ spans l) × (length l ≤ 1024)
+  few (spans m) e =
+      let p = unless (ltb 1024 (length m)) 11 (accepted m) e in
+      let q : m ≡ l = cc (p .1) in
+      rw (← q) (refl, ltb-false 1024 (length m) (p .0))
+  few (wrong n) e = no cc
+
+  pub accepts : (s : List ℕ) → sheet s ≡ accepted l → Accepts s l
+  unfolding sheet
+  accepts s e =
+      let p = unless (ltb 65536 (length s)) 11 (limited (lines (length s) 1 s)) e in
+      let q = few (lines (length s) 1 s) (p .1) in
+      record { is = q .0; few-lines = q .1; few-bytes = ltb-false 65536 (length s) (p .0) }

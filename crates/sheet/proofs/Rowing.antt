@@ -1,25 +1,23 @@
 -- Rows put one after another: a count read back from its float is the count, a row is short, and each row put is the next of the text. Assumes nothing.
-use Prim.Native.Nat.{ℕ, zero, suc, _+_, _*_, _^_, _≤_, _<_, min}
-use mathlib.Core.Path.{_≡_, refl, sym, _∙_, ap}
+use Prim.Native.Nat.{ℕ, zero, suc, _+_, _*_, _≤_, _<_, min}
+use mathlib.Core.Path.{_≡_, sym, _∙_, ap}
 use mathlib.Core.Bool.{Bool, true, false, _&&_}
 use mathlib.Core.List.{List, [], _∷_, _++_, append-assoc, append-nil, map}
 use native.Mathlib.Omega.{arith}
 use native.Mathlib.Numerals.{add-one}
 use borrow.Author.Tests.{le-leb, le-ltb, eq-eqb}
-use lib.Dec.{T}
 use lib.IntN.{ℤ, pos}
-use lib.Ieee.{Float, nan, binary64, ofInt, toBits, toUnsigned, inFloat}
+use lib.Ieee.{Float, nan, binary64, toBits, toUnsigned, inFloat}
 use lib.Ieee.Back.{unsigned-back}
-use lib.ListN.{length, take, drop, getD, length-append}
+use lib.ListN.{length, take, getD, length-append}
 use lib.Seq.{take-suc}
-use Rattle.bet_sizing.specs.Budget.{budgetSize, budgetSizes}
-use Rattle.bet_sizing.specs.Counts.{concurrent, concurrentCounts, indicator, live, onSide, whole}
+use Rattle.bet_sizing.specs.Budget.{budgetSize}
+use Rattle.bet_sizing.specs.Counts.{concurrent, live, onSide, whole}
 use Rattle.bet_sizing.specs.Refusals.{ConcurrentSides, BetSizeBudget, spansRefusal, listAfter}
 use Rattle.bet_sizing.specs.declared.Outcome.{Outcome}
 use Rattle.bet_sizing.proofs.Ranks.{indicator-le}
 use Rattle.bet_sizing.proofs.Sizing.{map-at}
-use Rattle.text.specs.Bytes.{bytes}
-use Rattle.text.specs.Print.{Placed, decimal, hex, shown}
+use Rattle.text.specs.Print.{Placed}
 use Rattle.text.proofs.Digits.{decimal-short, shown-short, hex-length}
 use Rattle.text.proofs.Placing.{Front, front-none, front-then}
 use Rattle.sheet.specs.Forms.{rowLine}

@@ -1,11 +1,9 @@
 -- A span, then a line, then a sheet: each part reads back and was printed by the laws of `text`, so the whole does and was. Assumes nothing.
 use Prim.Native.Nat.{ℕ, zero, suc, _≤_}
 use mathlib.Core.Path.{_≡_, refl, _∙_, ap}
-use mathlib.Core.Bool.{Bool, cond, true, false}
 use mathlib.Core.List.{List, [], _∷_, _++_, append-assoc}
 use native.Mathlib.Omega.{arith}
-use borrow.Author.Tests.{ltb-false, le-ltb}
-use lib.Dec.{ltb}
+use borrow.Author.Tests.{le-ltb}
 use lib.ListN.{length, length-append}
 use Rattle.text.specs.Bytes.{bytes}
 use Rattle.text.specs.Decode.{Got, got, bad, word, instant, hexes}
@@ -21,9 +19,10 @@ use Rattle.text.proofs.Spelling.{
   hex-range,
 }
 use Rattle.sheet.specs.Forms.{spanForm, lineForm, spanText, spanLines}
-use Rattle.sheet.specs.Sheet.{Lines, spans, wrong, also, onward, lines, Reading, accepted, refused, limited, sheet}
+use Rattle.sheet.specs.Sheet.{Lines, spans, wrong, also, onward, lines, accepted, sheet}
 use Rattle.sheet.specs.Spelling.{InRange, AllInRange, Holdable, OneSpelling}
 use Rattle.sheet.specs.declared.forms.Span.{Span}
+use Rattle.sheet.proofs.Going.{accepts}
 
 -- ---- what is printed reads back
 span-back : (a : Span) (s : List ℕ) → InRange a → spanForm (spanText a ++ s) ≡ got a s
@@ -137,29 +136,11 @@ lines-spelled (suc k) n (b ∷ s) l e = by (lineForm (b ∷ s)) refl e (λ t m f
     by bad p e f = no cc
 
 -- ---- a sheet
-module _ (l : List Span) where
-  unless : (b : Bool) (n : ℕ) (g : Reading) → cond b (refused n) g ≡ accepted l → (b ≡ false) × (g ≡ accepted l)
-  unless true n g e = no cc
-  unless false n g e = (refl, e)
-
-  few : (g : Lines) → limited g ≡ accepted l → (g ≡ spans l) × (length l ≤ 1024)
-  few (spans m) e =
-      let p = unless (ltb 1024 (length m)) 11 (accepted m) e in
-      let q : m ≡ l = cc (p .1) in
-      rw (← q) (refl, ltb-false 1024 (length m) (p .0))
-  few (wrong n) e = no cc
-
-  sheet-spelled : (s : List ℕ) → sheet s ≡ accepted l → (s ≡ spanLines l) × Holdable l
-  unfolding sheet
-  sheet-spelled s e =
-      let p = unless (ltb 65536 (length s)) 11 (limited (lines (length s) 1 s)) e in
-      let q = few (lines (length s) 1 s) (p .1) in
-      let r = lines-spelled (length s) 1 s l (q .0) in
-      let b : length (spanLines l) ≤ 65536 = rw (← r .0) (ltb-false 65536 (length s) (p .0)) in
-      (r .0, record { in-range = r .1; few-lines = q .1; few-bytes = b })
+sheet-spelled : (s : List ℕ) (l : List Span) → sheet s ≡ accepted l → (s ≡ spanLines l) × Holdable l
+sheet-spelled s l e =
+    let a = accepts l s e in
+    let r = lines-spelled (length s) 1 s l (a .is) in
+    (r .0, record { in-range = r .1; few-lines = a .few-lines; few-bytes = rw (← r .0) (a .few-bytes) })
 
 pub one-spelling : (s : List ℕ) → OneSpelling s
-one-spelling s = record {
-  only = λ l e. sheet-spelled l s e;
-  all = λ l h e. rw e (sheet-back l h);
-}
+one-spelling s = record { only = sheet-spelled s; all = λ l h e. rw e (sheet-back l h) }

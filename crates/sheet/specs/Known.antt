@@ -2,17 +2,17 @@
 use Prim.Native.Nat.{ℕ}
 use Prim.Native.String.{String}
 use mathlib.Core.Path.{_≡_, refl}
-use mathlib.Core.List.{List, [], _∷_, _++_, map}
+use mathlib.Core.List.{List, [], _∷_, _++_}
 use lib.IntN.{pos, negsuc}
 use lib.Ieee.{ofBits, toBits, ofInt, lt, div, sub, round, units, odd, size, sum, add, neg, span, climb}
 use Rattle.bet_sizing.specs.Counts.{concurrent, maximum, whole}
 use Rattle.text.specs.Bytes.{bytes}
 use Rattle.text.specs.Decode.{word, nibble, numeral, natural, instant, hexes}
 use Rattle.text.specs.Print.{width, decimal, hex, shown}
-use Rattle.sheet.specs.CountSheet.{countSheet, refusal, refusalAt}
+use Rattle.sheet.specs.CountSheet.{countSheet, refusalAt}
 use Rattle.sheet.specs.Forms.{spanForm, lineForm, rowLine, spanText, spanLines}
 use Rattle.sheet.specs.Rows.{rowAt, textOf}
-use Rattle.sheet.specs.Sheet.{lines, sheet, accepted, refusedAt}
+use Rattle.sheet.specs.Sheet.{lines, sheet, accepted}
 
 worked : countSheet
     (bytes "(span (from 0) (to 10) (side 3ff0000000000000))\n"

@@ -8,12 +8,6 @@ use lib.Seq.{length-take-le}
 use Rattle.text.proofs.Placing.{placed-within}
 use Rattle.count_sheet.proofs.answer.Statement.{statement}
 use Rattle.count_sheet.proofs.answer.Tie as tie
-use Rattle.count_sheet.proofs.answer.Reads as reads
-use Rattle.count_sheet.proofs.answer.Lts as lts
-use Rattle.count_sheet.proofs.out_room.Reads as out-room-reads
-use Rattle.io.proofs.write_all.Reads as write-all-reads
-use Rattle.os.proofs.fail.Reads as fail-reads
-use Rattle.sheet.proofs.count_sheet.Reads as count-sheet-reads
 
 within : (c : tie.After-count-sheet) → c .count-sheet .result ≤ length (c .count-sheet .last .1 .0)
 within c = placed-within _ _ 0 _ _ (omega arith) (c .count-sheet .ensures) .0

@@ -7,11 +7,6 @@ use lib.ListN.{length}
 use lib.Seq.{length-take-le}
 use Rattle.count_sheet.proofs.main.Statement.{statement}
 use Rattle.count_sheet.proofs.main.Tie as tie
-use Rattle.count_sheet.proofs.main.Reads as reads
-use Rattle.count_sheet.proofs.main.Lts as lts
-use Rattle.count_sheet.proofs.answer.Reads as answer-reads
-use Rattle.count_sheet.proofs.read_all.Reads as read-all-reads
-use Rattle.os.proofs.fail.Reads as fail-reads
 
 within : (c : tie.After-known-told) → c .before .n .given .0 .0 ≤ length (c .before .before .before .before .read-all .last .0)
 within c =

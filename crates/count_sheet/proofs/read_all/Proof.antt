@@ -1,15 +1,10 @@
 -- Each read stays within what is left of the buffer.
 use borrow.Author.Needs.{needs}
 use Prim.Native.Nat.{_-_, _≤_}
-use mathlib.Core.Path.{_≡_, refl, _∙_}
-use native.Mathlib.Omega.{arith}
-use lib.ListN.{length, length-drop}
+use mathlib.Core.Path.{_≡_}
+use lib.ListN.{length}
 use Rattle.count_sheet.proofs.read_all.Statement.{statement}
 use Rattle.count_sheet.proofs.read_all.Tie as tie
-use Rattle.count_sheet.proofs.read_all.Reads as reads
-use Rattle.count_sheet.proofs.read_all.Lts as lts
-use Rattle.io.proofs.count.Reads as count-reads
-use Rattle.libc.proofs.read.Reads as read-reads
 
 abbrev Inv-loop : tie.InvT-loop
 Inv-loop buf₀ at₀ buf at = (at ≤ length buf) × (length buf ≡ length buf₀)

@@ -5,12 +5,6 @@ use native.Mathlib.Omega.{arith}
 use lib.Seq.{length-take-le}
 use Rattle.sheet_cases.proofs.case.Statement.{statement}
 use Rattle.sheet_cases.proofs.case.Tie as tie
-use Rattle.sheet_cases.proofs.case.Reads as reads
-use Rattle.sheet_cases.proofs.case.Lts as lts
-use Rattle.sheet_cases.proofs.is_answered.Reads as is-answered-reads
-use Rattle.sheet_cases.proofs.read_file.Reads as read-file-reads
-use Rattle.sheet_cases.proofs.room.Reads as room-reads
-use Rattle.sheet_cases.proofs.tell.Reads as tell-reads
 
 room-requires : tie.Need-room-requires
 room-requires c κs = search needs

@@ -5,11 +5,6 @@ use native.Mathlib.Omega.{arith}
 use lib.Seq.{length-take-le}
 use Rattle.sheet_cases.proofs.is_answered.Statement.{statement}
 use Rattle.sheet_cases.proofs.is_answered.Tie as tie
-use Rattle.sheet_cases.proofs.is_answered.Reads as reads
-use Rattle.sheet_cases.proofs.is_answered.Lts as lts
-use Rattle.sheet.proofs.count_sheet.Reads as count-sheet-reads
-use Rattle.sheet_cases.proofs.room.Reads as room-reads
-use Rattle.sheet_cases.proofs.same.Reads as same-reads
 
 room-requires : tie.Need-room-requires
 room-requires c κs = search needs

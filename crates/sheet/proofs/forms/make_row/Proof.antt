@@ -8,18 +8,12 @@ use mir.Syntax.{w64}
 use mir.ValLaws.{toZ-ofZ}
 use lib.ListN.{length}
 use Rattle.text.specs.Bytes.{bytes}
-use Rattle.text.specs.Print.{Fronts, decimal, hex, shown}
+use Rattle.text.specs.Print.{decimal, hex, shown}
 use Rattle.text.proofs.Digits.{decimal-short, hex-length, shown-short}
 use Rattle.text.proofs.Placing.{Front, front-is, front-none, front-then}
 use Rattle.sheet.specs.Forms.{rowLine}
 use Rattle.sheet.proofs.forms.make_row.Statement.{statement}
 use Rattle.sheet.proofs.forms.make_row.Tie as tie
-use Rattle.sheet.proofs.forms.make_row.Reads as reads
-use Rattle.sheet.proofs.forms.make_row.Lts as lts
-use Rattle.text.proofs.put.Reads as put-reads
-use Rattle.text.proofs.put_decimal.Reads as put-decimal-reads
-use Rattle.text.proofs.put_hex.Reads as put-hex-reads
-use Rattle.text.proofs.put_instant.Reads as put-instant-reads
 
 regroup : (w₁ a w₂ b w₃ c w₄ d w₅ : List ℕ)
     → (((((((([] ++ w₁) ++ a) ++ w₂) ++ b) ++ w₃) ++ c) ++ w₄) ++ d) ++ w₅ ≡ w₁ ++ (a ++ (w₂ ++ (b ++ (w₃ ++ (c ++ (w₄ ++ (d ++ w₅)))))))

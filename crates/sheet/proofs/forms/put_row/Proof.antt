@@ -6,10 +6,6 @@ use mir.ValLaws.{toZ-ofZ}
 use lib.Seq.{length-take-le}
 use Rattle.sheet.proofs.forms.put_row.Statement.{statement}
 use Rattle.sheet.proofs.forms.put_row.Tie as tie
-use Rattle.sheet.proofs.forms.put_row.Reads as reads
-use Rattle.sheet.proofs.forms.put_row.Lts as lts
-use Rattle.sheet.proofs.forms.make_row.Reads as make-row-reads
-use Rattle.text.proofs.put.Reads as put-reads
 
 slice-aggregate-make-row : tie.Need-slice-aggregate-make-row
 slice-aggregate-make-row c = search needs

@@ -3,10 +3,6 @@ use borrow.Author.Needs.{needs}
 use Rattle.sheet.specs.Forms.{lineForm}
 use Rattle.sheet.proofs.forms.read_line.Statement.{statement}
 use Rattle.sheet.proofs.forms.read_line.Tie as tie
-use Rattle.sheet.proofs.forms.read_line.Reads as reads
-use Rattle.sheet.proofs.forms.read_line.Lts as lts
-use Rattle.sheet.proofs.forms.read_span.Reads as read-span-reads
-use Rattle.text.proofs.read_word.Reads as read-word-reads
 
 read-span-requires : tie.Need-read-span-requires
 read-span-requires c κs = search needs

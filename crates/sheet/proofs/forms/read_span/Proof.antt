@@ -5,11 +5,6 @@ use Rattle.sheet.specs.Forms.{spanForm}
 use borrow.Author.Needs.{needs}
 use Rattle.sheet.proofs.forms.read_span.Statement.{statement}
 use Rattle.sheet.proofs.forms.read_span.Tie as tie
-use Rattle.sheet.proofs.forms.read_span.Reads as reads
-use Rattle.sheet.proofs.forms.read_span.Lts as lts
-use Rattle.text.proofs.read_hex.Reads as read-hex-reads
-use Rattle.text.proofs.read_instant.Reads as read-instant-reads
-use Rattle.text.proofs.read_word.Reads as read-word-reads
 
 slice-aggregate-read-word : tie.Need-slice-aggregate-read-word
 slice-aggregate-read-word c = search needs

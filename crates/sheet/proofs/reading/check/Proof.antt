@@ -4,13 +4,10 @@ use Prim.Native.Nat.{_+_, _-_}
 use mathlib.Core.Path.{_∙_, ap}
 use native.Mathlib.Omega.{arith}
 use lib.ListN.{length}
-use Rattle.sheet.specs.Meaning.{formIs, answerOf}
+use Rattle.sheet.specs.Meaning.{formIs}
 use Rattle.sheet.proofs.Going.{Going, start, more, fault, whole, further, sheet-long, sheet-wrong, sheet-many, sheet-good}
 use Rattle.sheet.proofs.reading.check.Statement.{statement}
 use Rattle.sheet.proofs.reading.check.Tie as tie
-use Rattle.sheet.proofs.reading.check.Reads as reads
-use Rattle.sheet.proofs.reading.check.Lts as lts
-use Rattle.sheet.proofs.forms.read_line.Reads as read-line-reads
 
 abbrev Inv-loop : tie.InvT-loop
 Inv-loop s at₀ n₀ at n = Going s at n

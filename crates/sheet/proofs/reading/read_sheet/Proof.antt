@@ -1,18 +1,13 @@
 -- The check says what the sheet is; each of its answers is one of document 01's cases (`Answering`). That there is one spelling is a law of the definition.
 use borrow.Author.Needs.{needs}
-use Prim.Native.Nat.{_≤_, min}
-use mathlib.Core.Path.{_≡_, _∙_, ap, sym}
+use Prim.Native.Nat.{min}
+use mathlib.Core.Path.{_∙_, ap, sym}
 use native.Mathlib.Omega.{arith}
 use lib.ListN.{length}
-use Rattle.sheet.proofs.Answering.{Read, fillable, no-room, refusal-at-stands, refusal-stands, was-accepted, was-read}
+use Rattle.sheet.proofs.Answering.{fillable, no-room, refusal-at-stands, refusal-stands, was-accepted, was-read}
 use Rattle.sheet.proofs.Spelling.{one-spelling}
 use Rattle.sheet.proofs.reading.read_sheet.Statement.{statement}
 use Rattle.sheet.proofs.reading.read_sheet.Tie as tie
-use Rattle.sheet.proofs.reading.read_sheet.Reads as reads
-use Rattle.sheet.proofs.reading.read_sheet.Lts as lts
-use Rattle.sheet.proofs.reading.check.Reads as check-reads
-use Rattle.sheet.proofs.reading.smaller.Reads as smaller-reads
-use Rattle.sheet.proofs.reading.take_spans.Reads as take-spans-reads
 
 smaller-requires : tie.Need-smaller-requires
 smaller-requires c κs = search needs

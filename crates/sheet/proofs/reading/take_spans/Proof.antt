@@ -11,10 +11,6 @@ use Rattle.sheet.proofs.Filling.{Filling, begin, put, filled, faultless
 use Rattle.sheet.proofs.Going.{further, more}
 use Rattle.sheet.proofs.reading.take_spans.Statement.{statement}
 use Rattle.sheet.proofs.reading.take_spans.Tie as tie
-use Rattle.sheet.proofs.reading.take_spans.Reads as reads
-use Rattle.sheet.proofs.reading.take_spans.Lts as lts
-use Rattle.sheet.proofs.forms.read_line.Reads as read-line-reads
-use Rattle.text.proofs.float_of.Reads as float-of-reads
 
 abbrev Inv-loop : tie.InvT-loop
 Inv-loop s starts₀ ends₀ sides₀ at₀ n₀ starts ends sides at n = Filling s at n starts₀ starts ends₀ ends sides₀ sides

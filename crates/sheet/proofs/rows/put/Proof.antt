@@ -1,15 +1,8 @@
 -- Nothing is refused, so what the counts and the sizes leave is what the rows ask (`rowable`).
 use borrow.Author.Needs.{needs}
-use mathlib.Core.Path.{_≡_}
-use lib.ListN.{length}
 use Rattle.sheet.proofs.Rowing.{rowable}
 use Rattle.sheet.proofs.rows.put.Statement.{statement}
 use Rattle.sheet.proofs.rows.put.Tie as tie
-use Rattle.sheet.proofs.rows.put.Reads as reads
-use Rattle.sheet.proofs.rows.put.Lts as lts
-use Rattle.bet_sizing.proofs.bet_size_budget.Reads as bet-size-budget-reads
-use Rattle.bet_sizing.proofs.get_concurrent_sides.Reads as get-concurrent-sides-reads
-use Rattle.sheet.proofs.rows.put_rows.Reads as put-rows-reads
 
 slice-aggregate-get-concurrent-sides : tie.Need-slice-aggregate-get-concurrent-sides
 slice-aggregate-get-concurrent-sides c = search needs

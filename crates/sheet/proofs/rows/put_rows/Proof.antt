@@ -1,7 +1,7 @@
 -- With i rows put, the text so far is theirs (`Rowed`).
 use borrow.Author.Needs.{needs}
-use Prim.Native.Nat.{_+_, _-_}
-use mathlib.Core.Path.{_≡_, refl}
+use Prim.Native.Nat.{_-_}
+use mathlib.Core.Path.{refl}
 use native.Mathlib.Omega.{arith}
 use lib.IntN.{pos}
 use lib.ListN.{length, getD}
@@ -12,11 +12,6 @@ use Rattle.text.proofs.Placing.{front-is}
 use Rattle.sheet.proofs.Rowing.{Rowed, row-none, row-one}
 use Rattle.sheet.proofs.rows.put_rows.Statement.{statement}
 use Rattle.sheet.proofs.rows.put_rows.Tie as tie
-use Rattle.sheet.proofs.rows.put_rows.Reads as reads
-use Rattle.sheet.proofs.rows.put_rows.Lts as lts
-use Rattle.number.proofs.as_usize.Reads as as-usize-reads
-use Rattle.sheet.proofs.forms.put_row.Reads as put-row-reads
-use Rattle.text.proofs.bits_of.Reads as bits-of-reads
 
 abbrev Inv-loop : tie.InvT-loop
 Inv-loop starts ends sides long short size out₀ at₀ i₀ out at i = Rowed (length out₀) starts ends sides out at i

@@ -4,10 +4,6 @@ use mathlib.Core.Path.{sym}
 use lib.Seq.{length-take-le}
 use Rattle.sheet.proofs.whole.count_sheet.Statement.{statement}
 use Rattle.sheet.proofs.whole.count_sheet.Tie as tie
-use Rattle.sheet.proofs.whole.count_sheet.Reads as reads
-use Rattle.sheet.proofs.whole.count_sheet.Lts as lts
-use Rattle.sheet.proofs.whole.put_answer.Reads as put-answer-reads
-use Rattle.text.proofs.put.Reads as put-reads
 
 slice-aggregate-put-answer : tie.Need-slice-aggregate-put-answer
 slice-aggregate-put-answer c = search needs

@@ -1,18 +1,11 @@
 -- Each answer of the reading is a case of the definition (`Answering`); with room for 1,024 spans none is lost.
 use borrow.Author.Needs.{needs}
-use mathlib.Core.Path.{_≡_, sym}
+use mathlib.Core.Path.{sym}
 use native.Mathlib.Omega.{arith}
-use lib.ListN.{length}
 use lib.Seq.{length-take-le}
 use Rattle.sheet.proofs.Answering.{Taken, countable, prints-refusal, prints-refusal-at, prints-rows, taken}
 use Rattle.sheet.proofs.whole.put_answer.Statement.{statement}
 use Rattle.sheet.proofs.whole.put_answer.Tie as tie
-use Rattle.sheet.proofs.whole.put_answer.Reads as reads
-use Rattle.sheet.proofs.whole.put_answer.Lts as lts
-use Rattle.sheet.proofs.reading.read_sheet.Reads as read-sheet-reads
-use Rattle.sheet.proofs.rows.put.Reads as put-reads
-use Rattle.sheet.proofs.whole.put_refusal.Reads as put-refusal-reads
-use Rattle.sheet.proofs.whole.put_refusal_at.Reads as put-refusal-at-reads
 
 -- what was taken, where the sheet is accepted
 took : (c : tie.After-known-told)
