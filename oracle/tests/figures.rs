@@ -2,6 +2,7 @@
 
 mod common;
 use common::*;
+use oracle::ef3m::M2N;
 
 #[test]
 fn moments() {
@@ -82,6 +83,22 @@ fn rows_of_a_grid() {
         assert!(single_fit(variant, 0.5, &[0.5]).starts_with("ok "));
         assert_eq!(single_fit(variant, 2f64.powi(-17), &[]), refused(6));
         assert_eq!(single_fit(variant, 2f64.powi(-18), &[]), refused(5));
+    }
+}
+
+/// The rows that the gate's program grid_cases must print: the Rust's, which draws 131,071 weights.
+#[test]
+fn rows_of_grid_cases() {
+    let printed = include_str!("../../crates/grid_cases/stdout");
+    for (variant, line) in [1, 2].into_iter().zip(printed.lines()) {
+        rand::set_draws(vec![0.5; 131_071]);
+        let epsilon = 2f64.powi(-17);
+        let rows = M2N::new(M.to_vec(), epsilon, 1.0, 1, variant, 10, 1).single_fit_loop(None);
+        assert_eq!(rand::draws_left(), 0);
+        let r = &rows.unwrap()[0];
+        let row = fs(&[r.mu_1, r.mu_2, r.sigma_1, r.sigma_2, r.p_1, r.error]);
+        let name = format!("2^-17, 131,071 weights, variant {variant}");
+        assert_eq!(line, format!("{name}: row {row}"));
     }
 }
 
