@@ -1,3 +1,4 @@
+pub mod Blocks
 pub mod Flats
 pub mod Known
 pub mod Running

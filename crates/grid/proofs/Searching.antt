@@ -8,7 +8,6 @@ use lib.ListN.{getD}
 use lib.Ieee.{Float, nan}
 use Rattle.walk.specs.Walk.{walkOf}
 use Rattle.walk.specs.declared.M2N.{M2N}
-use Rattle.walk.specs.declared.Walked.{Walked}
 use Rattle.grid.specs.Refusals.{rowsOf, gridRefusal}
 use Rattle.grid.specs.Rows.{begun, centredState, movedState, movedBest}
 use Rattle.grid.specs.Search.{inForce, deviationOf, meanOf, looked, searchTo, foundBy, plainFit, centredFit, fitOf, answered, singleFit}
@@ -19,11 +18,11 @@ use Rattle.grid.specs.declared.search.Searched.{Searched}
 use Rattle.grid.specs.declared.Outcome.the-variants.{Refused, Ended}
 
 -- one row more
-pub row-more : (m : M2N) (deviation : Float) (weights : List Float) (i : ℕ) (s s′ : Search) (μ : Float) (walked : Walked) → s ≡ searchTo m deviation weights i → μ ≡ meanOf m deviation (i + 1) → walked ≡ walkOf (s .state) μ (getD weights i nan) → s′ ≡ looked s (walked .state) → s′ ≡ searchTo m deviation weights (i + 1)
+pub row-more : (m : M2N) (deviation : Float) (weights : List Float) (i : ℕ) (s s′ : Search) (μ : Float) → s ≡ searchTo m deviation weights i → μ ≡ meanOf m deviation (i + 1) → s′ ≡ looked s (walkOf (s .state) μ (getD weights i nan) .state) → s′ ≡ searchTo m deviation weights (i + 1)
 unfolding searchTo
-row-more m deviation weights i s s′ μ walked hs hμ hw h =
+row-more m deviation weights i s s′ μ hs hμ h =
     h
-    ∙ ap (λ x. looked s (x .state)) (hw ∙ ap (λ x. walkOf (s .state) x (getD weights i nan)) (hμ ∙ ap (meanOf m deviation) (add-one i)))
+    ∙ ap (λ x. looked s (walkOf (s .state) x (getD weights i nan) .state)) (hμ ∙ ap (meanOf m deviation) (add-one i))
     ∙ ap (λ x. looked x (walkOf (x .state) (meanOf m deviation (suc i)) (getD weights i nan) .state)) hs
     ∙ ap (searchTo m deviation weights) (sym (add-one i))
 

@@ -1,7 +1,8 @@
 -- One search over the grid (the Rust's single_fit_loop and centred_fit_loop). Definitions only.
 use mathlib.Core.List.{List}
 use mathlib.Core.Bool.{Bool, _&&_, not, cond}
-use Prim.Native.Nat.{ℕ, zero, suc, _≤_}
+use mathlib.Core.Path.{_≡_}
+use Prim.Native.Nat.{ℕ, zero, suc, _+_, _≤_, _<_}
 use lib.Dec.{eqb}
 use lib.IntN.{pos}
 use lib.ListN.{length, getD}
@@ -9,6 +10,7 @@ use lib.Ieee.{Float, nan, binary64, add, mul, ofInt, lt, eq}
 use Rattle.float.specs.Constants.{nought}
 use Rattle.float.specs.Root.{root}
 use Rattle.moments.specs.Orders.{centredSum}
+use Rattle.step.specs.Steps.{sigma2Squared}
 use Rattle.walk.specs.Walk.{walkOf}
 use Rattle.walk.specs.declared.M2N.{M2N}
 use Rattle.grid.specs.Refusals.{rowsOf, gridRefusal}
@@ -76,6 +78,14 @@ answered (suc n) m s = record { state = m; outcome = Refused (suc n) }
 unfoldable pub singleFit : M2N → Epsilon → List Float → Fitted
 unfolding gridRefusal fitOf
 singleFit m e weights = answered (gridRefusal m (inForce m e) 1 weights) m (fitOf m (inForce m e) weights)
+
+-- σ₂² of the first step of the row after the first i
+abbrev pub varianceOf : M2N → Float → List Float → ℕ → Float
+varianceOf m deviation weights i = sigma2Squared (m .moments) (meanOf m deviation (suc i)) (getD weights i nan)
+
+-- those of the k rows after the first `from`
+abbrev pub Variances : M2N → Float → List Float → ℕ → ℕ → List Float → Type 0
+Variances m deviation weights from k v = (j : ℕ) → j < k → getD v j nan ≡ varianceOf m deviation weights (from + j)
 
 -- what a search that is not refused rests on
 abbrev pub Served : M2N → Float → List Float → Type 0

@@ -1,8 +1,9 @@
 // One search over the grid.
 ghost use mathlib.Core.Path.{_≡_};
-ghost use Prim.Native.Nat.{_≤_};
+ghost use Prim.Native.Nat.{_+_, _≤_, min};
 ghost use lib.ListN.{length};
-ghost use Rattle.grid.specs.Search.{Served, centredFit, deviationOf, fitOf, inForce, isCentred, looked, meanOf, plainFit, searchTo};
+ghost use Rattle.walk.specs.Walk.{walkOf};
+ghost use Rattle.grid.specs.Search.{Served, Variances, centredFit, deviationOf, fitOf, inForce, isCentred, looked, meanOf, plainFit, searchTo};
 use crate::Best;
 use crate::Epsilon;
 use crate::refusals;
@@ -65,6 +66,61 @@ fn look(s: Search, m: M2N) -> Search
     }
 }
 
+// The sigma_2^2 of the first step of each of k rows, after the first `from`. Nothing branches here, so
+// that rows are worked out side by side.
+fn variances(m: M2N, deviation: f64, weights: &[f64], from: usize, k: usize) -> [f64; 256]
+    requires { ⌜ (k ≤ 256) × (from + k ≤ 131072) × (from + k ≤ length (now weights)) ⌝ }
+    ensures { λ r. ⌜ Variances m deviation (now (weights .entry)) from k r ⌝ }
+{
+    let a = walk::first_five(m);
+    let mut v = [0.0f64; 256];
+    let mut j = 0;
+    while j < k {
+        let i = from + j;
+        v[j] = step::sigma_2_squared(a, mean_of(m, deviation, i + 1), weights[i]);
+        j += 1;
+    }
+    v
+}
+
+// One row more, by a walk.
+fn walk_row(s: Search, mu_2: f64, p_1: f64) -> Search
+    ensures { λ r. ⌜ r ≡ looked s (walkOf (s .state) mu_2 p_1 .state) ⌝ }
+{
+    let state = s.state;
+    let w = walk::iterate_from(state, mu_2, p_1);
+    let after = w.state;
+    look(s, after)
+}
+
+// k rows more, after the first `from`. Where sigma_2^2 is below zero the walk ends at its first step
+// and leaves all as it was: so end most rows, and they are passed over.
+fn walk_block(s: Search, m: M2N, deviation: f64, weights: &[f64], from: usize, k: usize) -> Search
+    requires { ⌜ (s ≡ searchTo m deviation (now weights) from) × (k ≤ 256) × (from + k ≤ 131072) × (from + k ≤ length (now weights)) ⌝ }
+    ensures { λ r. ⌜ r ≡ searchTo m deviation (now (weights .entry)) (from + k) ⌝ }
+{
+    let v = variances(m, deviation, weights, from, k);
+    let mut t = s;
+    let mut j = 0;
+    while j < k {
+        let i = from + j;
+        let x = v[j];
+        j += 1;
+        if x < 0.0 {
+            continue;
+        }
+        t = walk_row(t, mean_of(m, deviation, i + 1), weights[i]);
+    }
+    t
+}
+
+// How many of the rows left a block takes.
+fn block_of(left: usize) -> usize
+    ensures { λ r. ⌜ r ≡ min left 256 ⌝ }
+{
+    if left < 256 { left } else { 256 }
+}
+
 // A walk from each row's mean and weight. The error carries over.
 fn walk_rows(m: M2N, deviation: f64, weights: &[f64], n: usize) -> Search
     requires { ⌜ (n ≤ 131072) × (n ≤ length (now weights)) ⌝ }
@@ -77,11 +133,9 @@ fn walk_rows(m: M2N, deviation: f64, weights: &[f64], n: usize) -> Search
     };
     let mut i = 0;
     while i < n {
-        let state = s.state;
-        let w = walk::iterate_from(state, mean_of(m, deviation, i + 1), weights[i]);
-        i += 1;
-        let after = w.state;
-        s = look(s, after);
+        let k = block_of(n - i);
+        s = walk_block(s, m, deviation, weights, i, k);
+        i += k;
     }
     s
 }

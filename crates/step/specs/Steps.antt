@@ -142,6 +142,15 @@ iter-5 =
     ∷ fail (outsideUnit p₁″)
     ∷ []
 
+-- the third variable of both programs, σ₂², without the tests before it
+unfoldable pub sigma2Squared : List Float → Float → Float → Float
+unfolding eval
+sigma2Squared ms μ p =
+    let g = μ ∷ p ∷ ms in
+    let a = eval g [] ((m₁ ⊖ (𝟏 ⊖ p₁) ⊗ μ₂) ⊘ p₁) in
+    let b = eval g (a ∷ []) (𝟑 ⊗ (𝟏 ⊖ p₁) ⊗ (μ₂ ⊖ μ₁)) in
+    eval g (a ∷ b ∷ []) ((m₃ ⊕ 𝟐 ⊗ p₁ ⊗ μ₁ ↑ 3 ⊕ (p₁ ⊖ 𝟏) ⊗ μ₂ ↑ 3 ⊖ 𝟑 ⊗ μ₁ ⊗ (m₂ ⊕ μ₂ ↑ 2 ⊗ (p₁ ⊖ 𝟏))) ⊘ den₂₄)
+
 -- the step that the formulas for mu_1, mu_2, sigma_1, sigma_2 and the new p_1 answer, from the inputs and a run's outcome
 abbrev pub answer : (a b c d e : Expr) → List Float → Outcome → Step
 answer a b c d e g inadmissible = Inadmissible

@@ -1,4 +1,7 @@
 // One step of the EF3M fit, on four moments and on five.
+pub mod variance; // variance.rt: sigma_2^2 by itself
+
+pub use variance::sigma_2_squared;
 ghost use mathlib.Core.Path.{_≡_};
 ghost use mathlib.Core.List.{[], _∷_};
 ghost use lib.ListN.{length};

@@ -11,10 +11,13 @@ use Rattle.float.specs.Constants.{nought, one}
 use Rattle.float.specs.Leaves.{absOf}
 use native.Mathlib.Omega.{arith}
 use borrow.Author.Tests.{eq-eqb, ltb-false}
+use Rattle.float.specs.Power.{powerOf}
+use Rattle.formula.specs.Formula.{eval}
 use Rattle.moments.specs.Mixture.{getMoments}
 use Rattle.moments.specs.Figures.{listed}
 use Rattle.moments.specs.declared.Five.{Five}
 use Rattle.moments.specs.declared.Params.{Params}
+use Rattle.step.specs.Steps.{sigma2Squared}
 use Rattle.step.specs.declared.Step.{Step}
 use Rattle.step.specs.declared.Step.the-variants.{Admitted, Inadmissible}
 use Rattle.walk.specs.Parts.{chosen, fitAfter, withFitOf, reasonFor}
@@ -92,7 +95,7 @@ pub begins : (m : M2N) (μ p : Float) → 0 ≡ walkRefusal m p → walkOf m μ 
 unfolding walkOf trailOf
 begins m μ p h = rw (none-less (m .«max_iter»), sym h, zero-first (trailOf m μ p))
 
-out : (step : Float → Float → Step) (ε : Float) (n : ℕ) (μ p : Float) → step μ p ≡ Inadmissible → trailFrom step ε (suc n) μ p ≡ Inadmissible ∷ []
+pub out : (step : Float → Float → Step) (ε : Float) (n : ℕ) (μ p : Float) → step μ p ≡ Inadmissible → trailFrom step ε (suc n) μ p ≡ Inadmissible ∷ []
 unfolding trailFrom
 out step ε n μ p e = rw (e, trailFrom)
 
@@ -104,6 +107,10 @@ on step ε n μ p r e = rw (e, trailFrom)
 pub stepped-on : (variant : ℕ) (ms : List Float) (a : Five) (μ p : Float) (r s : Step) → a ≡ fiveOf ms → r ≡ stepFor variant (listed a) μ p → r ≡ s → stepFor variant ms μ p ≡ s
 unfolding stepFor
 stepped-on variant ms a μ p r s ha hr hs = sym (hr ∙ ap (λ x. stepFor variant (listed x) μ p) ha) ∙ hs
+
+pub five-enough : (ms : List Float) (a : Five) (μ p : Float) → a ≡ fiveOf ms → sigma2Squared ms μ p ≡ sigma2Squared (listed a) μ p
+unfolding sigma2Squared eval powerOf
+five-enough ms a μ p ha = sym (ap (λ x. sigma2Squared (listed x) μ p) ha)
 
 pub fit-on : (len : ℕ) (ms : List Float) (a : Five) (f g : Fit) (r : Params) → a ≡ fiveOf ms → g ≡ fitAfter len a f r → g ≡ fitAfter len (fiveOf ms) f r
 fit-on len ms a f g r ha hg = hg ∙ ap (λ x. fitAfter len x f r) ha

@@ -58,7 +58,8 @@ pub struct Walked {
     pub outcome: Outcome,
 }
 
-fn first_five(m: M2N) -> Five
+// The moments that a step reads.
+pub fn first_five(m: M2N) -> Five
     ensures { λ r. ⌜ r ≡ fiveOf (m .moments) ⌝ }
 {
     Five {
