@@ -1,12 +1,15 @@
 -- Laws of the definitions, on plain values, each stated once.
+pub mod Bracket
 pub mod Comparing
 pub mod Exponents
 pub mod Fits
 pub mod Floor
+pub mod Monotone
 pub mod Order
 pub mod Patterns
 pub mod Powers
 pub mod Product
+pub mod RootOrder
 pub mod RootScale
 pub mod RootValue
 pub mod Rooted
