@@ -1,3 +1,4 @@
 pub mod Curves
 pub mod Limits
 pub mod Lots
+pub mod Walking

@@ -4,7 +4,7 @@ use mathlib.Core.Bool.{Bool, cond}
 use Prim.Native.Nat.{ℕ, zero, suc, _≤_, _<_}
 use native.Mathlib.Omega.{arith}
 use lib.Dec.{T, le→leb, ltb}
-use lib.IntN.{ℤ, pos, natAbs, subℕ, _-ℤ_}
+use lib.IntN.{ℤ, pos, negsuc, natAbs, subℕ, _-ℤ_}
 use lib.Ieee.{Float, nan, binary64, ofInt, inFloat, toSigned}
 use mir.Syntax.{w64}
 use mir.Val.{toZ, ofZ, SFits}
@@ -19,6 +19,15 @@ use Rattle.prices.proofs.Lots.{keys-differ, lots-fit}
 pub few : (n : ℕ) → n ≤ 1000000 → T (inFloat binary64 (pos n))
 unfolding inFloat
 few n h = le→leb n 9007199254740992 (omega arith)
+
+-- a direction is one lot at most
+pub one-way : (sgn d : ℤ) → sgn ≡ signOf d → SFits w64 sgn → natAbs (toZ w64 (ofZ w64 sgn)) ≤ 1
+one-way sgn d e f = subst (λ (z : ℤ). natAbs z ≤ 1) (sym (toZ-ofZ w64 sgn f ∙ e)) (small d)
+  where
+    small : (d : ℤ) → natAbs (signOf d) ≤ 1
+    small (pos zero) = omega arith
+    small (pos (suc n)) = omega arith
+    small (negsuc n) = omega arith
 
 module _ (t p f w max : Float) (target current : ℤ) (et : target ≡ toSigned 63 t) (ec : current ≡ toSigned 63 p) (ft : SFits w64 target) (fc : SFits w64 current) where
   module _ (to from lots : ℕ) (eo : to ≡ keyOf (toZ w64 (ofZ w64 target))) (ef : from ≡ keyOf (toZ w64 (ofZ w64 current))) (el : lots ≡ natAbs (subℕ to from)) where

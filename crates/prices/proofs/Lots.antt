@@ -141,7 +141,7 @@ module _ (t : ℤ) (f : SFits w64 t) (e : ltZ (toZ w64 (ofZ w64 t)) (pos 0) ≡ 
 still : (c : ℤ) (i : ℕ) → lotNumber c (pos 0) i ≡ c
 still c i = ap (λ z. c +ℤ z) (zero-*ℤ (pos i)) ∙ +ℤ-idr c
 
-lot-first : (c s : ℤ) → lotNumber c s 0 ≡ c
+pub lot-first : (c s : ℤ) → lotNumber c s 0 ≡ c
 lot-first c s = ap (λ z. c +ℤ z) (*ℤ-zero s) ∙ +ℤ-idr c
 
 -- one lot more
@@ -201,7 +201,7 @@ sum-more f w max current sgn i lot sum x y e h g s =
 
 -- ---- a turn of the loop, which holds positions as bits
 module _ (current sgn : ℤ) (fc : SFits w64 current) (fs : SFits w64 sgn) where
-  read-lot : (i : ℕ) → lotNumber (toZ w64 (ofZ w64 current)) (toZ w64 (ofZ w64 sgn)) i ≡ lotNumber current sgn i
+  pub read-lot : (i : ℕ) → lotNumber (toZ w64 (ofZ w64 current)) (toZ w64 (ofZ w64 sgn)) i ≡ lotNumber current sgn i
   read-lot i =
       ap (λ (z : ℤ). lotNumber z (toZ w64 (ofZ w64 sgn)) i) (toZ-ofZ w64 current fc) ∙ ap (λ (z : ℤ). lotNumber current z i) (toZ-ofZ w64 sgn fs)
 

@@ -6,6 +6,8 @@ ghost use mir.Syntax.{w64};
 ghost use mir.Val.{SFits};
 ghost use Rattle.prices.specs.Prices.{getWSigmoid, infinite, invPriceSigmoid, keyOf, limitPriceSigmoid, lotNumber, lotPrice, overflown, signOf, spoilt, summed, widthLost};
 
+mod blocks;
+
 // Refused by document 01's number, or the mean price of the lots walked.
 pub enum Limit {
     Refused(u64),
@@ -120,14 +122,16 @@ fn direction(from: u64, to: u64) -> i64
     0
 }
 
-// The prices of the lots walked, summed as Rust's sum() does, from -0.
+// The prices of the lots walked, summed as Rust's sum() does, from -0: whole blocks first.
 fn sum_of_prices(f: f64, w: f64, max_pos: f64, current: i64, sgn: i64, lots: u64) -> f64
-    requires { ⌜ ((i : ℕ) → i ≤ lots → SFits w64 (lotNumber current sgn i)) ⌝ }
+    requires { ⌜ ((i : ℕ) → i ≤ lots → SFits w64 (lotNumber current sgn i)) × (natAbs sgn ≤ 1) × (lots ≤ 1000000) ⌝ }
     ensures { λ r. ⌜ r ≡ summed (lotPrice f w «max_pos» current sgn) lots ⌝ }
 {
-    let mut sum = -0.0;
-    let mut lot = current;
-    let mut i: u64 = 0;
+    let whole = blocks::blocks_of(f, current, lots);
+    let walked = blocks::walk(f, w, max_pos, current, sgn, whole);
+    let mut sum = walked.sum;
+    let mut lot = walked.lot;
+    let mut i: u64 = whole * 32;
     while i < lots {
         lot = lot + sgn;
         sum = sum + inv_price_sigmoid(f, w, number::i64_as_f64(lot) / max_pos);

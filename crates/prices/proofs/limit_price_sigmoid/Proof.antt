@@ -1,6 +1,7 @@
 -- `prices::limit_price_sigmoid` meets its contract: by its tests, from what the parts answer (`Limits.antt`). Assumes nothing.
+use lib.IntN.{subℕ}
 use lib.Ieee.{ofBits, div}
-use Rattle.prices.proofs.Limits.{few, none, refused, walkable, priced}
+use Rattle.prices.proofs.Limits.{few, one-way, none, refused, walkable, priced}
 use borrow.Author.Needs.{needs}
 use Rattle.prices.proofs.limit_price_sigmoid.Statement.{statement}
 use Rattle.prices.proofs.limit_price_sigmoid.Tie as tie
@@ -52,8 +53,11 @@ sum-of-prices-requires c κs =
     let from = c .before .before .before .before .before .key in
     let to = c .before .before .before .before .key2 in
     let lots = c .before .before .before .lots-between in
-    let sgn = c .direction in
-    walkable (a .t-pos) (a .pos) (a .f) (a .w) (a .max-pos) (t .result) (p .result) (t .ensures) (p .ensures) (record { sfits = t .ok }) (record { sfits = p .ok }) (to .result) (from .result) (lots .result) (to .ensures) (from .ensures) (lots .ensures) (sgn .result) (sgn .ensures) (record { sfits = sgn .ok })
+    let sgn = c .direction in (
+      walkable (a .t-pos) (a .pos) (a .f) (a .w) (a .max-pos) (t .result) (p .result) (t .ensures) (p .ensures) (record { sfits = t .ok }) (record { sfits = p .ok }) (to .result) (from .result) (lots .result) (to .ensures) (from .ensures) (lots .ensures) (sgn .result) (sgn .ensures) (record { sfits = sgn .ok }),
+      one-way (sgn .result) (subℕ (to .result) (from .result)) (sgn .ensures) (record { sfits = sgn .ok }),
+      c .before .if2 .left,
+    )
 
 int-to-float-t15 : tie.Need-int-to-float-t15
 int-to-float-t15 c = few _ (c .before .before .before .if2 .left)
