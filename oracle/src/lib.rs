@@ -12,5 +12,6 @@ mod counts;
 mod fit;
 pub mod protocol;
 pub mod refusals;
+pub mod sheet;
 
 pub use answer::answer;
