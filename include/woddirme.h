@@ -1,7 +1,7 @@
-/* The fit, the bet sizes and the prices for C and Rust: link target/staticlib/libcapi.a, which `rt staticlib capi` writes.
+/* The fit, the bet sizes and the prices for C and Rust: link target/libwoddirme.a, which include/build writes.
    Every pointer comes with how many numbers it points to and is never null, not even for none;
-   what is written must overlap with nothing else that is lent. crates/capi/src/fits.rt and bets.rt have
-   the contracts. */
+   what is written must overlap with nothing else that is lent. The crates capi, capi_bets and capi_numbers
+   have the contracts. */
 #ifndef WODDIRME_H
 #define WODDIRME_H
 

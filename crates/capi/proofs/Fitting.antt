@@ -11,7 +11,7 @@ use Rattle.grid.specs.declared.Epsilon.{Epsilon}
 use Rattle.grid.specs.declared.Fitted.{Fitted}
 use Rattle.grid.specs.declared.Outcome.the-variants.{Refused}
 use Rattle.capi.specs.Fits.{SingleFitLeaves, fitted, outcomeOf, overrideOf}
-use Rattle.capi.specs.States.{stateOf}
+use Rattle.capi_states.specs.States.{stateOf}
 
 module _ (moments : List Float) (variant : ℕ) (factor : Float) (max-iter : ℕ) (override weights fit row : List Float) where
   pub short-fit : length fit < 12 → outcomeOf moments variant factor max-iter override weights fit row ≡ Refused 8

@@ -1,4 +1,3 @@
-pub mod Betting
 pub mod Fitting
 pub mod Numbers
 pub mod Several

@@ -19,12 +19,6 @@ front s d j hs hd = rw add-one (go s d j hs hd)
     go (x ∷ s) (y ∷ d) zero hs hd = refl
     go (x ∷ s) (y ∷ d) (suc j) hs hd = ap (λ l. x ∷ l) (go s d j (omega arith) (omega arith))
 
--- within a list it does not matter what stands for a number past its end
-pub getD-within : (l : List Float) (i : ℕ) (d e : Float) → i < length l → getD l i d ≡ getD l i e
-getD-within [] i d e h = absurd (omega arith)
-getD-within (x ∷ l) zero d e h = refl
-getD-within (x ∷ l) (suc i) d e h = getD-within l i d e (omega arith)
-
 pub override-none : (l : List Float) → length l ≡ 0 → Own ≡ overrideOf l
 override-none [] h = refl
 override-none (x ∷ l) h = absurd (omega arith)

@@ -14,7 +14,7 @@ use Rattle.grid.specs.Runs.{filledBy, flatFit, mpFit, runRows}
 use Rattle.grid.specs.declared.Filled.the-variants.{Unfilled, Rows}
 use Rattle.grid.specs.declared.Flat.{Flat}
 use Rattle.capi.specs.Fits.{MpFitLeaves, Roomy, filledOf, ran}
-use Rattle.capi.specs.States.{stateOf}
+use Rattle.capi_states.specs.States.{stateOf}
 
 -- ---- room
 filled : (k l n : ℕ) → filledBy k l ≡ Rows n → l ≡ n

@@ -4,7 +4,7 @@ use mathlib.Core.List.{List, [], _∷_, _++_}
 use mathlib.Core.Bool.{Bool, true, false, _||_}
 use Prim.Native.Nat.{ℕ, _*_, _/_, _≤_}
 use lib.Dec.{ltb}
-use lib.ListN.{length, take, drop}
+use lib.ListN.{length, take, drop, set}
 use lib.Ieee.{Float}
 use Rattle.walk.specs.declared.M2N.{M2N}
 use Rattle.grid.specs.Runs.{flatFit}
@@ -15,11 +15,12 @@ use Rattle.grid.specs.declared.Epsilon.{Epsilon}
 use Rattle.grid.specs.declared.Epsilon.the-variants.{Override, Own}
 use Rattle.grid.specs.declared.Filled.{Filled}
 use Rattle.grid.specs.declared.Filled.the-variants.{Unfilled, Rows}
+use Rattle.grid.specs.declared.FitResultRow.{FitResultRow}
 use Rattle.grid.specs.declared.Fitted.{Fitted}
 use Rattle.grid.specs.declared.Flat.{Flat}
 use Rattle.grid.specs.declared.Outcome.{Outcome}
 use Rattle.grid.specs.declared.Outcome.the-variants.{Refused, Ended}
-use Rattle.capi.specs.States.{stateOf, withState, withRow}
+use Rattle.capi_states.specs.States.{stateOf, withState}
 
 -- an empty list gives no override, any other its first number
 abbrev pub overrideOf : List Float → Epsilon
@@ -30,6 +31,10 @@ overrideOf (x ∷ l) = Override x
 abbrev pub numberOf : Outcome → ℕ
 numberOf (Refused n) = n
 numberOf (Ended b) = 0
+
+-- the lent numbers with a row put into them
+abbrev pub withRow : List Float → FitResultRow → List Float
+withRow l r = set (set (set (set (set (set l 0 (r .«mu_1»)) 1 (r .«mu_2»)) 2 (r .«sigma_1»)) 3 (r .«sigma_2»)) 4 (r .«p_1»)) 5 (r .error)
 
 -- how many rows the best fit gives, and where its row goes
 abbrev pub howMany : Best → ℕ

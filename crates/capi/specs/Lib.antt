@@ -1,3 +1,1 @@
-pub mod Bets
-pub mod States
 pub mod Fits

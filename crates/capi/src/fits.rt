@@ -3,11 +3,11 @@ ghost use mathlib.Core.Path.{_≡_};
 ghost use mathlib.Core.List.{_++_};
 ghost use Prim.Native.Nat.{_≤_};
 ghost use lib.ListN.{drop, length, take};
-ghost use Rattle.capi.specs.Fits.{MpFitLeaves, Roomy, SingleFitLeaves, filledOf, fitted, howMany, numberOf, outcomeOf, overrideOf, ran, refusalOf, withBest};
-use crate::states;
+ghost use Rattle.capi.specs.Fits.{MpFitLeaves, Roomy, SingleFitLeaves, filledOf, fitted, howMany, numberOf, outcomeOf, overrideOf, ran, refusalOf, withBest, withRow};
 use grid::Best;
 use grid::Epsilon;
 use grid::Filled;
+use grid::FitResultRow;
 use grid::Flat;
 use grid::Outcome;
 use walk::M2N;
@@ -32,6 +32,19 @@ fn refusal_of(o: Outcome) -> u64
     }
 }
 
+// The six numbers of a row.
+fn put_row(l: &mut [f64], r: FitResultRow)
+    requires { ⌜ 6 ≤ length (now l) ⌝ }
+    ensures { λ _. ⌜ now (l .exit) ≡ withRow (now (l .entry)) r ⌝ }
+{
+    l[0] = r.mu_1;
+    l[1] = r.mu_2;
+    l[2] = r.sigma_1;
+    l[3] = r.sigma_2;
+    l[4] = r.p_1;
+    l[5] = r.error;
+}
+
 // Without a row the lent numbers stay as they were.
 fn leave_row(b: Best, row: &mut [f64]) -> usize
     requires { ⌜ 6 ≤ length (now row) ⌝ }
@@ -40,7 +53,7 @@ fn leave_row(b: Best, row: &mut [f64]) -> usize
     let Best::Row(r) = b else {
         return 0;
     };
-    states::put_row(row, r);
+    put_row(row, r);
     1
 }
 
@@ -52,7 +65,7 @@ fn leave(o: Outcome, m: M2N, fit: &mut [f64], row: &mut [f64], rows: &mut usize)
     let Outcome::Ended(b) = o else {
         return refusal_of(o);
     };
-    states::put_state(fit, m);
+    capi_states::put_state(fit, m);
     *rows = leave_row(b, row);
     0
 }
@@ -82,7 +95,7 @@ pub extern "C" fn woddirme_single_fit_loop(
     if row.len() < 6 {
         return 8;
     }
-    let m = states::state_of(moments, variant, factor, max_iter, 1, fit);
+    let m = capi_states::state_of(moments, variant, factor, max_iter, 1, fit);
     let e = override_of(epsilon_override);
     let r = grid::single_fit_loop(m, e, weights);
     let o = r.outcome;
@@ -149,7 +162,7 @@ pub extern "C" fn woddirme_mp_fit(
     if fit.len() < 12 {
         return 8;
     }
-    let m = states::state_of(moments, variant, factor, max_iter, n_runs, fit);
+    let m = capi_states::state_of(moments, variant, factor, max_iter, n_runs, fit);
     let places = rows.len() / 6;
     let f = grid::mp_fit_flat(m, weights, places);
     leave_rows(f, rows, count)
