@@ -1,3 +1,4 @@
 pub mod Rounds
 pub mod Stays
 pub mod Trails
+pub mod Within

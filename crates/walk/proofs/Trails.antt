@@ -99,7 +99,7 @@ pub out : (step : Float → Float → Step) (ε : Float) (n : ℕ) (μ p : Float
 unfolding trailFrom
 out step ε n μ p e = rw (e, trailFrom)
 
-on : (step : Float → Float → Step) (ε : Float) (n : ℕ) (μ p : Float) (r : Params) → step μ p ≡ Admitted r → trailFrom step ε (suc n) μ p ≡ Admitted r ∷ cond (settled ε p (r .«p_1»)) [] (trailFrom step ε n (r .«mu_2») (r .«p_1»))
+pub on : (step : Float → Float → Step) (ε : Float) (n : ℕ) (μ p : Float) (r : Params) → step μ p ≡ Admitted r → trailFrom step ε (suc n) μ p ≡ Admitted r ∷ cond (settled ε p (r .«p_1»)) [] (trailFrom step ε n (r .«mu_2») (r .«p_1»))
 unfolding trailFrom
 on step ε n μ p r e = rw (e, trailFrom)
 

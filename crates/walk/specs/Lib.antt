@@ -1,4 +1,5 @@
 pub mod Figures
 pub mod Parts
+pub mod Limit
 pub mod Trail
 pub mod Walk
