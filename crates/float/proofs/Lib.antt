@@ -9,6 +9,7 @@ pub mod Order
 pub mod Patterns
 pub mod Powers
 pub mod Product
+pub mod RootExact
 pub mod RootOrder
 pub mod RootScale
 pub mod RootValue

@@ -2,7 +2,7 @@
 use mathlib.Core.Path.{_≡_, refl, sym, ap, _∙_}
 use mathlib.Core.Bool.{Bool, true, false, not, _||_, Bool·beq, cond}
 use Prim.Native.Nat.{ℕ, zero, suc, _+_, _-_, _*_, _/_, _%_, _^_, _≤_, _<_}
-use native.Mathlib.Nat.{le-of-lt, lt-of-not-le, mul-one, zero-mul, mul-comm, mul-pos, mul-le-mul-right, mul-div-cancel, div-lt-iff-lt-mul, div-add-mod', add-mul, le-of-mul-le-mul-right, mul-sub, mul-mul-mul-comm}
+use native.Mathlib.Nat.{le-of-lt, lt-of-not-le, mul-one, zero-mul, mul-comm, mul-pos, mul-le-mul-right, mul-div-cancel, div-lt-iff-lt-mul, div-add-mod', add-mul, le-of-mul-le-mul-right, mul-sub, mul-mul-mul-comm, zero-lt-suc}
 use native.Mathlib.Omega.{arith}
 use lib.Dec.{T, ltb, eqb, ltb→lt, nltb→le, eqb→eq}
 use lib.Pow.{pow-pos}
@@ -10,9 +10,9 @@ use lib.IntN.{ℤ, pos, negℤ, natAbs, pos-ne-negsuc, _+ℤ_, _-ℤ_, _*ℤ_, n
 use lib.Ieee.{Float, nan, inf, fin, Format, binary64, prec, emax, low, up, down, unlike, odd, units, round, sum, neg, add, sub, mul, le, eq}
 use lib.Ieee.Back.{round-whole}
 use lib.Ieee.Exact.{HasValue}
-use lib.Ieee.Fits.{round-is, down-pos, and-l, and-r, and-i, eq→eqb}
+use lib.Ieee.Fits.{round-is, down-pos, up-pos, and-l, and-r, and-i, eq→eqb}
 use lib.Ieee.Order.{round-mono}
-use lib.Ieee.Positive.{above-of-le, le→cross}
+use lib.Ieee.Positive.{above-of-le, first-pos, le→cross}
 use lib.Ieee.Scale.{round-same}
 use Rattle.formula.specs.Whole.{isWhole, signed, intOf}
 use Rattle.formula.proofs.Integers.{neg-times, times-neg, less-whole, less-negative}
@@ -31,7 +31,19 @@ pub whole-small : (s : Bool) (m : ℕ) (e : ℤ) → T (isWhole (fin s m e)) →
 unfolding isWhole
 whole-small s m e w = ltb→lt (m * up e / down e) (2 ^ 53) (and-r (eqb (m * up e % down e) 0) (ltb (m * up e / down e) (2 ^ 53)) w)
 
-value-int : (x : Float) (s : Bool) (N : ℕ) → HasValue x s N 1 → intOf x ≡ signed s N
+-- its size is 0 where its digits are
+pub whole-some : (s : Bool) (m : ℕ) (e : ℤ) → T (isWhole (fin s (suc m) e)) → 0 < suc m * up e / down e
+whole-some s m e w = first-pos (suc m * up e / down e) (down e) (rw (whole-size s (suc m) e w) at (mul-pos (zero-lt-suc m) (up-pos e)))
+
+pub whole-none : (s : Bool) (e : ℤ) → intOf (fin s zero e) ≡ pos 0
+unfolding intOf
+whole-none s e = go s (ap (λ (x : ℕ). x / down e) (zero-mul (up e) ∙ sym (zero-mul (down e))) ∙ mul-div-cancel 0 (down-pos e))
+  where
+    go : (s : Bool) → 0 * up e / down e ≡ 0 → signed s (0 * up e / down e) ≡ pos 0
+    go false z = ap pos z
+    go true z = ap (signed true) z
+
+pub value-int : (x : Float) (s : Bool) (N : ℕ) → HasValue x s N 1 → intOf x ≡ signed s N
 unfolding intOf
 value-int nan s N v = absurd v
 value-int (inf t) s N v = absurd v
@@ -172,10 +184,10 @@ size-signed false a = refl
 size-signed true zero = refl
 size-signed true (suc a) = refl
 
-same-size : (s t : Bool) (a b : ℕ) → signed s a ≡ signed t b → a ≡ b
+pub same-size : (s t : Bool) (a b : ℕ) → signed s a ≡ signed t b → a ≡ b
 same-size s t a b e = cc (size-signed s a, size-signed t b)
 
-same-sign : (s t : Bool) (a b : ℕ) → signed s a ≡ signed t b → T (Bool·beq s t || eqb a 0)
+pub same-sign : (s t : Bool) (a b : ℕ) → signed s a ≡ signed t b → T (Bool·beq s t || eqb a 0)
 same-sign false false a b e = tt
 same-sign true true a b e = tt
 same-sign false true a zero e = eq→eqb (same-size false true a zero e)

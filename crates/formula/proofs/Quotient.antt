@@ -1,12 +1,13 @@
 -- Where the rounded quotient of two whole numbers below 2 ^ 53 is one too, it is exact: it times the divisor is the dividend. The rounded value is within half a unit of the quotient, and half a unit is less than 1 over the divisor.
 use mathlib.Core.Path.{_≡_, refl, sym, ap, _∙_}
+use mathlib.Core.Logic.{_≢_}
 use mathlib.Core.Bool.{Bool, true, false, not, cond}
 use Prim.Native.Nat.{ℕ, zero, suc, _+_, _-_, _*_, _/_, _%_, _^_, _≤_, _<_, Ordering, Ordering·lt, Ordering·eq, Ordering·gt, compare}
 use native.Mathlib.Nat.{le-antisymm, le-of-suc-le-suc, zero-lt-suc, mul-pos, mul-le-mul-right, mul-lt-mul-of-pos-right, lt-of-mul-lt-mul-right, eq-of-mul-eq-mul-right, le-div-iff-mul-le, div-add-mod', mod-lt, pow-suc}
 use native.Mathlib.Omega.{arith}
 use lib.Dec.{T, eqb, lit≤}
 use lib.Pow.{pow-add, pow-pos, pow-mono}
-use lib.IntN.{ℤ, _*ℤ_}
+use lib.IntN.{ℤ, pos, _*ℤ_}
 use lib.Ieee.{Float, nan, inf, fin, Format, binary32, binary64, prec, low, up, down, unlike, size, nearest, round, div}
 use lib.Ieee.Digits.{size-reaches}
 use lib.Ieee.Exact.{HasValue}
@@ -17,7 +18,7 @@ use lib.Ieee.Positive.{first-pos}
 use lib.Ieee.Scale.{grid, finite, round-same, round-val, round-under}
 use Rattle.float.proofs.Comparing.{Cmp, cmp}
 use Rattle.formula.specs.Whole.{isWhole, signed, intOf}
-use Rattle.formula.proofs.Exact.{whole-size, whole-small, whole-round, round-int, sign-times, over-right, over-left}
+use Rattle.formula.proofs.Exact.{whole-size, whole-small, whole-some, whole-round, round-int, sign-times, same-size, over-right, over-left}
 
 -- ---- the nearest multiple of u is within half of u
 record Near (n u y : ℕ) : Type 0 where
@@ -149,3 +150,22 @@ div-exact (fin s m e) (fin t n d) p q w = go (eqb n 0) (eqb m 0) (some n) w
         let Q : 0 < B = mul-pos U (down-pos e) in
         let r = quotient (unlike s t) a b P (whole-small s m e p) (whole-small t n d q) (rw (round-same binary64 (unlike s t) A B a b Q P (cross A B D a b top bot)) at w) in
         ap (λ (i : ℤ). i *ℤ signed t b) (round-int (unlike s t) (r .0) A B Q (turn A B D a b (r .0) top bot (r .1)) w) ∙ cancel s t (r .0) b ∙ ap (signed s) (sym (r .1))
+
+-- and the divisor is not zero
+pub div-some : (x y : Float) → T (isWhole y) → T (isWhole (div binary64 x y)) → intOf y ≢ pos 0
+unfolding div intOf isWhole
+div-some nan y q w = absurd w
+div-some (inf s) nan q w = absurd w
+div-some (inf s) (inf t) q w = absurd w
+div-some (inf s) (fin t n d) q w = absurd w
+div-some (fin s m e) nan q w = absurd q
+div-some (fin s m e) (inf t) q w = absurd q
+div-some (fin s m e) (fin t zero d) q w = absurd (go (eqb m 0) w)
+  where
+    go : (b : Bool) → T (isWhole (cond b nan (inf (unlike s t)))) → ⊥
+    go true w = w
+    go false w = w
+div-some (fin s m e) (fin t (suc n) d) q w = λ h. apart (suc n * up d / down d) (whole-some t n d q) (same-size t false (suc n * up d / down d) 0 h)
+  where
+    apart : (k : ℕ) → 0 < k → k ≡ 0 → ⊥
+    apart k h e = omega arith

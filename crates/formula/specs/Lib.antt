@@ -1,4 +1,5 @@
 pub mod Degree
+pub mod Exact
 pub mod Formula
 pub mod Met
 pub mod Range

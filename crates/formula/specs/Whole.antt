@@ -23,17 +23,17 @@ intOf nan = pos 0
 intOf (inf s) = pos 0
 intOf (fin s m e) = signed s (m * up e / down e)
 
--- the constants of a formula are whole, and it has no variable
-unfoldable pub wholeConstants : Expr → Bool
+-- the constants of a formula are whole, and it reads none but the first n variables
+unfoldable pub wholeConstants : ℕ → Expr → Bool
 unfolding isWhole
-wholeConstants (given k) = true
-wholeConstants (var k) = false
-wholeConstants (const c) = isWhole c
-wholeConstants (a ⊕ b) = wholeConstants a && wholeConstants b
-wholeConstants (a ⊖ b) = wholeConstants a && wholeConstants b
-wholeConstants (a ⊗ b) = wholeConstants a && wholeConstants b
-wholeConstants (a ⊘ b) = wholeConstants a && wholeConstants b
-wholeConstants (√ a) = wholeConstants a
+wholeConstants n (given k) = true
+wholeConstants n (var k) = ltb k n
+wholeConstants n (const c) = isWhole c
+wholeConstants n (a ⊕ b) = wholeConstants n a && wholeConstants n b
+wholeConstants n (a ⊖ b) = wholeConstants n a && wholeConstants n b
+wholeConstants n (a ⊗ b) = wholeConstants n a && wholeConstants n b
+wholeConstants n (a ⊘ b) = wholeConstants n a && wholeConstants n b
+wholeConstants n (√ a) = wholeConstants n a
 
 -- t 0 + t 1 + .. + t (n - 1), summed from +0.0
 unfoldable pub sumOf : (ℕ → Expr) → ℕ → Expr

@@ -1,5 +1,6 @@
 -- Up to order 16, comb and the powers of -1 are whole and exact, and the constants of the two sums are whole: one test over the whole table, computed.
 use mathlib.Core.Path.{_≡_, ap}
+use mathlib.Core.List.{List, []}
 use mathlib.Core.Logic.{inl, inr}
 use mathlib.Core.Bool.{Bool, false, _&&_}
 use Prim.Native.Nat.{ℕ, zero, suc, _-_, _≤_, _<_}
@@ -7,9 +8,10 @@ use native.Mathlib.Nat.{eq-or-lt-of-le, le-of-suc-le-suc}
 use native.Mathlib.Omega.{arith}
 use lib.Dec.{T, eqb, eqb→eq}
 use lib.IntN.{ℤ, pos, negsuc}
-use lib.Ieee.{round, mul, div, ofInt}
+use lib.Ieee.{Float, round, mul, div, ofInt}
 use lib.Ieee.Fits.{and-l, and-r}
 use Rattle.float.specs.Power.{powerOf, power}
+use Rattle.formula.specs.Exact.{rootables}
 use Rattle.formula.specs.Whole.{isWhole, intOf, wholeConstants}
 use Rattle.formula.proofs.Ring.{pw}
 use Rattle.formula.proofs.Integers.{integers}
@@ -48,7 +50,11 @@ abbrev ofSign : ℕ → Bool
 ofSign j = same (intOf (power minusOne j)) (pw integers (negsuc 0) j) && isWhole (power minusOne j)
 
 abbrev ofSums : ℕ → Bool
-ofSums n = wholeConstants (centred n) && wholeConstants (raw n)
+ofSums n = wholeConstants 0 (centred n) && wholeConstants 0 (raw n)
+
+-- the sums have no root
+abbrev ofRoots : List Float → ℕ → Bool
+ofRoots g n = rootables g [] (centred n) && rootables g [] (raw n)
 
 combs : T (every (λ n. every (ofComb n) (suc n)) 17)
 unfolding every same isWhole intOf choose binomial round mul div ofInt
@@ -62,6 +68,10 @@ sums : T (every ofSums 17)
 unfolding every wholeConstants centred raw choose powerOf round mul div ofInt
 sums = tt
 
+roots : (g : List Float) → T (every (ofRoots g) 17)
+unfolding every rootables centred raw powerOf
+roots g = tt
+
 module _ (n : ℕ) (h : n ≤ 16) where
   at-comb : (k : ℕ) → k ≤ n → T (ofComb n k)
   at-comb k l = every-at (ofComb n) (suc n) k (omega arith) (every-at (λ n. every (ofComb n) (suc n)) 17 n (omega arith) combs)
@@ -72,14 +82,25 @@ module _ (n : ℕ) (h : n ≤ 16) where
   pub choose-whole : (k : ℕ) → k ≤ n → T (wholeComb n k)
   choose-whole k l = and-r (same (intOf (choose n k)) (pos (binomial n k))) (wholeComb n k) (at-comb k l)
 
+  pub comb-whole : (k : ℕ) → k ≤ n → T (isWhole (choose n k))
+  comb-whole k l =
+      let i = lesser k (n - k) in
+      and-l (isWhole (choose n k)) (isWhole (falling n i)) (and-l (isWhole (choose n k) && isWhole (falling n i)) (isWhole (rising i)) (choose-whole k l))
+
   pub sign-exact : intOf (power minusOne n) ≡ pw integers (negsuc 0) n
   sign-exact = same-is (intOf (power minusOne n)) (pw integers (negsuc 0) n) (and-l (same (intOf (power minusOne n)) (pw integers (negsuc 0) n)) (isWhole (power minusOne n)) (every-at ofSign 17 n (omega arith) signs))
 
   pub sign-whole : T (isWhole (power minusOne n))
   sign-whole = and-r (same (intOf (power minusOne n)) (pw integers (negsuc 0) n)) (isWhole (power minusOne n)) (every-at ofSign 17 n (omega arith) signs)
 
-  pub centred-constants : T (wholeConstants (centred n))
-  centred-constants = and-l (wholeConstants (centred n)) (wholeConstants (raw n)) (every-at ofSums 17 n (omega arith) sums)
+  pub centred-constants : T (wholeConstants 0 (centred n))
+  centred-constants = and-l (wholeConstants 0 (centred n)) (wholeConstants 0 (raw n)) (every-at ofSums 17 n (omega arith) sums)
 
-  pub raw-constants : T (wholeConstants (raw n))
-  raw-constants = and-r (wholeConstants (centred n)) (wholeConstants (raw n)) (every-at ofSums 17 n (omega arith) sums)
+  pub raw-constants : T (wholeConstants 0 (raw n))
+  raw-constants = and-r (wholeConstants 0 (centred n)) (wholeConstants 0 (raw n)) (every-at ofSums 17 n (omega arith) sums)
+
+  pub centred-roots : (g : List Float) → T (rootables g [] (centred n))
+  centred-roots g = and-l (rootables g [] (centred n)) (rootables g [] (raw n)) (every-at (ofRoots g) 17 n (omega arith) (roots g))
+
+  pub raw-roots : (g : List Float) → T (rootables g [] (raw n))
+  raw-roots g = and-r (rootables g [] (centred n)) (rootables g [] (raw n)) (every-at (ofRoots g) 17 n (omega arith) (roots g))

@@ -4,3 +4,4 @@ pub mod CombTable
 pub mod Products
 pub mod Remaking
 pub mod Turns
+pub mod WholeMixture

@@ -1,3 +1,4 @@
 -- Laws that belong to no one function.
 pub mod StepRuns
 pub mod Weight
+pub mod WholeSteps
