@@ -1,7 +1,6 @@
 // The fit state as a C program holds it: the target moments, a few numbers, and 12 flat ones.
 ghost use mathlib.Core.Path.{_≡_};
-ghost use Prim.Native.Nat.{_≤_};
-ghost use lib.ListN.{length};
+ghost use lib.ListN.{set};
 ghost use Rattle.capi_states.specs.States.{at, sixteen, stateOf, withMoments, withParams, withState};
 use moments::Five;
 use moments::Params;
@@ -77,37 +76,43 @@ pub fn state_of(
     }
 }
 
+// Puts number i of a list, where it has one.
+fn put_number(l: &mut [f64], i: usize, x: f64)
+    ensures { λ _. ⌜ now (l .exit) ≡ set (now (l .entry)) i x ⌝ }
+{
+    if i < l.len() {
+        l[i] = x;
+    }
+}
+
 // Five numbers into the front of a list.
 pub fn put_params(l: &mut [f64], p: Params)
-    requires { ⌜ 5 ≤ length (now l) ⌝ }
     ensures { λ _. ⌜ now (l .exit) ≡ withParams (now (l .entry)) p ⌝ }
 {
-    l[0] = p.mu_1;
-    l[1] = p.mu_2;
-    l[2] = p.sigma_1;
-    l[3] = p.sigma_2;
-    l[4] = p.p_1;
+    put_number(l, 0, p.mu_1);
+    put_number(l, 1, p.mu_2);
+    put_number(l, 2, p.sigma_1);
+    put_number(l, 3, p.sigma_2);
+    put_number(l, 4, p.p_1);
 }
 
 fn put_moments(l: &mut [f64], m: Five)
-    requires { ⌜ 12 ≤ length (now l) ⌝ }
     ensures { λ _. ⌜ now (l .exit) ≡ withMoments (now (l .entry)) m ⌝ }
 {
-    l[7] = m.m_1;
-    l[8] = m.m_2;
-    l[9] = m.m_3;
-    l[10] = m.m_4;
-    l[11] = m.m_5;
+    put_number(l, 7, m.m_1);
+    put_number(l, 8, m.m_2);
+    put_number(l, 9, m.m_3);
+    put_number(l, 10, m.m_4);
+    put_number(l, 11, m.m_5);
 }
 
 pub fn put_state(l: &mut [f64], m: M2N)
-    requires { ⌜ 12 ≤ length (now l) ⌝ }
     ensures { λ _. ⌜ now (l .exit) ≡ withState (now (l .entry)) m ⌝ }
 {
     let p = m.parameters;
     let n = m.new_moments;
     put_params(l, p);
-    l[5] = m.error;
-    l[6] = m.epsilon;
+    put_number(l, 5, m.error);
+    put_number(l, 6, m.epsilon);
     put_moments(l, n);
 }

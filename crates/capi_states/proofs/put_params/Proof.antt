@@ -1,39 +1,38 @@
--- `capi_states::put_params` meets its contract: the stores are `withParams`'s, and none of them changes the length. Assumes nothing.
-use native.Mathlib.Omega.{arith}
-use lib.ListN.{length-set}
+-- `capi_states::put_params` meets its contract: the stores are `withParams`'s. Assumes nothing.
 use borrow.Author.Needs.{needs}
+use mathlib.Core.Path.{_∙_}
 use Rattle.capi_states.proofs.put_params.Statement.{statement}
 use Rattle.capi_states.proofs.put_params.Tie as tie
 
-slice-write-l : tie.Need-slice-write-l
-slice-write-l c = search needs
+put-number-requires : tie.Need-put-number-requires
+put-number-requires c κs = search needs
 
-slice-write-l-2 : tie.Need-slice-write-l-2
-slice-write-l-2 c = simp length-set (omega arith)
+put-number-requires-2 : tie.Need-put-number-requires-2
+put-number-requires-2 c κs = search needs
 
-slice-write-l-3 : tie.Need-slice-write-l-3
-slice-write-l-3 c = simp length-set (omega arith)
+put-number-requires-3 : tie.Need-put-number-requires-3
+put-number-requires-3 c κs = search needs
 
-slice-write-l-4 : tie.Need-slice-write-l-4
-slice-write-l-4 c = simp length-set (omega arith)
+put-number-requires-4 : tie.Need-put-number-requires-4
+put-number-requires-4 c κs = search needs
 
-slice-write-l-5 : tie.Need-slice-write-l-5
-slice-write-l-5 c = simp length-set (omega arith)
+put-number-requires-5 : tie.Need-put-number-requires-5
+put-number-requires-5 c κs = search needs
 
 same-length : tie.Need-same-length
 same-length c = search needs
 
 returns : tie.Need-returns
-returns c = search needs
+returns c = c .before .before .put-number5 .ensures ∙ rw (c .before .before .before .before .before .before .put-number4 .ensures, c .before .before .before .before .before .before .before .before .before .before .put-number3 .ensures, c .before .before .before .before .before .before .before .before .before .before .before .before .before .before .put-number2 .ensures, c .before .before .before .before .before .before .before .before .before .before .before .before .before .before .before .before .before .before .put-number .ensures)
 
 pub put-params-spec : {M : Type 1} → statement M
 put-params-spec =
     tie.close
     (tie.spec
-    slice-write-l
-    slice-write-l-2
-    slice-write-l-3
-    slice-write-l-4
-    slice-write-l-5
+    put-number-requires
+    put-number-requires-2
+    put-number-requires-3
+    put-number-requires-4
+    put-number-requires-5
     same-length
     returns)
