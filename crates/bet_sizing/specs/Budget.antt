@@ -1,4 +1,4 @@
--- The budget size: the live longs over their largest number, less the same of the shorts. Definitions only.
+-- The budget size of chapter 10 of Advances in Financial Machine Learning: the live longs over their largest number, less the same of the shorts (the Rust's bet_size_budget). Definitions only.
 use Prim.Native.Nat.{ℕ, zero, suc}
 use mathlib.Core.Bool.{true, false}
 use mathlib.Core.List.{List, map}

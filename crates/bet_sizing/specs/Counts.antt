@@ -1,4 +1,4 @@
--- Spans in time, each with a side: how many of a side are live at an instant. Definitions only.
+-- Spans in time, each with a side: how many of a side are live at an instant (chapter 10 of Advances in Financial Machine Learning; the Rust's get_concurrent_sides). Definitions only.
 use Prim.Native.Nat.{ℕ, _+_, max}
 use mathlib.Core.Bool.{Bool, true, false, not, _&&_, cond}
 use mathlib.Core.List.{List, [], _∷_, map}

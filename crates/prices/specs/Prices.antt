@@ -1,4 +1,4 @@
--- Prices on the sigmoid curve: the Rust's get_w_sigmoid, inv_price_sigmoid and limit_price_sigmoid, line by line, each operation rounded once. Definitions only.
+-- Prices on the sigmoid curve of chapter 10 of Advances in Financial Machine Learning: the Rust's get_w_sigmoid, inv_price_sigmoid and limit_price_sigmoid, line by line, each operation rounded once. Definitions only.
 use mathlib.Core.Bool.{Bool, true, false, _&&_, _||_, not, cond}
 use Prim.Native.Nat.{ℕ, zero, suc, _+_, _-_}
 use lib.Dec.{ltb}

@@ -1,4 +1,4 @@
--- The two steps of the fit as programs of formulas, each beside the Rust's iter_4 and iter_5, line by line. Definitions only.
+-- The two steps of the fit, from López de Prado and Foreman (2014), as programs of formulas, each beside the Rust's iter_4 and iter_5, line by line. Definitions only.
 use mathlib.Core.List.{List, [], _∷_}
 use Prim.Native.Nat.{ℕ}
 use lib.Ieee.{Float}
