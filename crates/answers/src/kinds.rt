@@ -6,8 +6,7 @@ use fit_requests::searches;
 use number_requests::leaves;
 use number_requests::orders;
 use price_requests::curves;
-use protocol::replies;
-use protocol::replies::Reply;
+use replies::Reply;
 use step_requests::steps;
 use step_requests::walks;
 

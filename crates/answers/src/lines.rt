@@ -1,8 +1,6 @@
 // Lines out of a stream of bytes that comes in chunks, each answered when its newline comes.
 use crate::kinds;
-use protocol::replies;
-use protocol::replies::Reply;
-use protocol::spans;
+use replies::Reply;
 
 // How many bytes of the current line have come, whether it has more than a line may have, how many
 // bytes of answers wait in `out`, and whether the input is over.
@@ -54,7 +52,7 @@ fn reply_to(line: &[u8], xs: &mut [f64], s: State) -> Reply {
 fn answer(line: &[u8], xs: &mut [f64], out: &mut [u8], s: State) -> State {
     let at = place(out, s.at);
     let r = reply_to(line, xs, s);
-    let to = spans::put(out, at, r, line, xs);
+    let to = replies::put(out, at, r, line, xs);
     State {
         len: 0,
         long: false,

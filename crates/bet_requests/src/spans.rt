@@ -1,14 +1,14 @@
 // Requests of the counts and the budget over spans. A side has 17 bytes of a line, so a line has
 // fewer than 4,096 of them. More starts or ends are unequal to them in number, also when cut to their
 // 4,096 places.
-ghost use Rattle.protocol.specs.Replies.{ListedIn};
+ghost use Rattle.replies.specs.Replies.{ListedIn};
 ghost use lib.ListN.{length};
 use bet_sizing::Outcome;
 use protocol::fields;
 use protocol::fields::List;
-use protocol::replies::Reply;
-use protocol::replies::SpanRows;
-use protocol::spans;
+use protocol::instants;
+use replies::Reply;
+use replies::SpanRows;
 use text::Number;
 
 // The fractions of an answer are left in xs.
@@ -44,10 +44,10 @@ fn read(s: &[u8], at: usize, starts: &mut [i64], ends: &mut [i64], sides: &mut [
     let Number::Is(room, a) = fields::read_next_natural(s, at, u64::MAX) else {
         return Asked::No;
     };
-    let List::Is(n_starts, b) = spans::read_next_instants(s, a, starts) else {
+    let List::Is(n_starts, b) = instants::read_next_instants(s, a, starts) else {
         return Asked::No;
     };
-    let List::Is(n_ends, c) = spans::read_next_instants(s, b, ends) else {
+    let List::Is(n_ends, c) = instants::read_next_instants(s, b, ends) else {
         return Asked::No;
     };
     let List::Is(n_sides, e) = fields::read_next_list(s, c, sides) else {

@@ -1,7 +1,7 @@
 // The request of several runs. A list longer than 16 is read, and refused by the library.
 ghost use Prim.Native.Nat.{_+_, _*_, _≤_};
 ghost use lib.ListN.{length};
-ghost use Rattle.protocol.specs.Replies.{ListedIn};
+ghost use Rattle.replies.specs.Replies.{ListedIn};
 use crate::words;
 use crate::words::Head;
 use crate::words::Limits;
@@ -12,7 +12,7 @@ use grid::Filled;
 use grid::FitResultRow;
 use grid::Flat;
 use protocol::fields;
-use protocol::replies::Reply;
+use replies::Reply;
 use text::Number;
 use walk::M2N;
 

@@ -1,5 +1,5 @@
 // The request of one search. A list longer than 16 is read, and refused by the library.
-ghost use Rattle.protocol.specs.Replies.{Unlisted};
+ghost use Rattle.replies.specs.Replies.{Unlisted};
 use crate::words;
 use crate::words::Head;
 use crate::words::Limits;
@@ -13,8 +13,8 @@ use grid::Outcome;
 use moments::Params;
 use protocol::fields;
 use protocol::fields::Fraction;
-use protocol::replies::Reply;
-use protocol::replies::Search;
+use replies::Reply;
+use replies::Search;
 use text::Next;
 use walk::M2N;
 

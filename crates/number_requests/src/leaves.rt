@@ -1,10 +1,9 @@
 // Requests of the number leaves. The function of each takes the request and the place after its
 // name.
-ghost use Rattle.protocol.specs.Replies.{Unlisted};
+ghost use Rattle.replies.specs.Replies.{Unlisted};
 use protocol::fields;
 use protocol::fields::Fraction;
-use protocol::replies;
-use protocol::replies::Reply;
+use replies::Reply;
 use text::Instant;
 use text::Number;
 

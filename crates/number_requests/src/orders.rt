@@ -1,6 +1,6 @@
 // Requests of moments. The function of each takes the request and the place after its name. A list
 // longer than 16 is read, and refused by the library.
-ghost use Rattle.protocol.specs.Replies.{ListedIn, Unlisted};
+ghost use Rattle.replies.specs.Replies.{ListedIn, Unlisted};
 ghost use lib.ListN.{length};
 use moments::Centred;
 use moments::Params;
@@ -8,7 +8,7 @@ use moments::Remade;
 use protocol::fields;
 use protocol::fields::Fraction;
 use protocol::fields::List;
-use protocol::replies::Reply;
+use replies::Reply;
 use text::Number;
 
 // An answer that is a list is left in xs.

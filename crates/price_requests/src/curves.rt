@@ -1,9 +1,9 @@
 // Requests of the sigmoid curve. The function of each takes the request and the place after its
 // name.
-ghost use Rattle.protocol.specs.Replies.{Unlisted};
+ghost use Rattle.replies.specs.Replies.{Unlisted};
 use prices::Limit;
 use protocol::fields;
-use protocol::replies::Reply;
+use replies::Reply;
 
 pub fn answer(s: &[u8]) -> Reply
     ensures { λ r. ⌜ Unlisted r ⌝ }

@@ -1,4 +1,2 @@
 -- What the contracts of the protocol say.
-pub mod Places
-pub mod Replies
 pub mod Words

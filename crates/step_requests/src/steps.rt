@@ -1,9 +1,9 @@
 // Requests of one step of the fit. A list longer than 16 is read, and refused by the library.
-ghost use Rattle.protocol.specs.Replies.{Unlisted};
+ghost use Rattle.replies.specs.Replies.{Unlisted};
 use protocol::fields;
 use protocol::fields::Fraction;
 use protocol::fields::List;
-use protocol::replies::Reply;
+use replies::Reply;
 use step::Iterate;
 use step::Step;
 

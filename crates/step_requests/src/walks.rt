@@ -1,11 +1,11 @@
 // The request of a walk. A list longer than 16 is read, and refused by the library.
-ghost use Rattle.protocol.specs.Replies.{Unlisted};
+ghost use Rattle.replies.specs.Replies.{Unlisted};
 use protocol::fields;
 use protocol::fields::Fraction;
 use protocol::fields::List;
 use protocol::fields::State;
-use protocol::replies::Reply;
-use protocol::replies::Report;
+use replies::Reply;
+use replies::Report;
 use text::Number;
 use walk::M2N;
 use walk::Outcome;

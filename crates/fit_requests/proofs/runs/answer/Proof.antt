@@ -2,7 +2,7 @@
 use native.Mathlib.Omega.{arith}
 use lib.ListN.{length}
 use borrow.Author.Needs.{needs}
-use Rattle.protocol.proofs.Rooms.{more-room}
+use Rattle.replies.proofs.Rooms.{more-room}
 use Rattle.fit_requests.proofs.runs.answer.Statement.{statement}
 use Rattle.fit_requests.proofs.runs.answer.Tie as tie
 

@@ -1,6 +1,6 @@
 -- How many fractions a reply may have in the list beside it. Definitions only.
 use Prim.Native.Nat.{ℕ, _*_, _≤_}
-use Rattle.protocol.specs.declared.replies.Reply as reply
+use Rattle.replies.specs.declared.forms.Reply as reply
 
 -- a reply that is a list has at most n fractions in all
 abbrev pub ListedIn : ℕ → reply.Reply → Type 0

@@ -1,7 +1,7 @@
--- `protocol::replies::is_bad` meets its contract: the arm of `Bad` alone says yes. Assumes nothing.
+-- `replies::forms::is_bad` meets its contract: the arm of `Bad` alone says yes. Assumes nothing.
 use borrow.Author.Needs.{needs}
-use Rattle.protocol.proofs.replies.is_bad.Statement.{statement}
-use Rattle.protocol.proofs.replies.is_bad.Tie as tie
+use Rattle.replies.proofs.forms.is_bad.Statement.{statement}
+use Rattle.replies.proofs.forms.is_bad.Tie as tie
 
 enum-told : tie.Need-enum-told
 enum-told c = search needs

@@ -1,12 +1,12 @@
--- `protocol::spans::put_rows` meets its contract and ends: a turn puts one row. Assumes nothing.
+-- `replies::rows::put_rows` meets its contract and ends: a turn puts one row. Assumes nothing.
 use Prim.Native.Nat.{_-_}
 use mathlib.Core.Path.{_≡_}
 use native.Mathlib.Omega.{arith}
 use borrow.Author.Needs.{needs}
 use lib.ListN.{length}
-use Rattle.protocol.specs.Places.{After}
-use Rattle.protocol.proofs.spans.put_rows.Statement.{statement}
-use Rattle.protocol.proofs.spans.put_rows.Tie as tie
+use Rattle.replies.specs.Places.{After}
+use Rattle.replies.proofs.rows.put_rows.Statement.{statement}
+use Rattle.replies.proofs.rows.put_rows.Tie as tie
 
 abbrev Inv-loop : tie.InvT-loop
 Inv-loop out₀ at r s xs n a to₀ k₀ i₀ out to k i = (length out ≡ length out₀) × After (length out₀) at to

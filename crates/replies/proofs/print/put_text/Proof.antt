@@ -1,8 +1,8 @@
--- `protocol::replies::put_text` meets its contract: it puts one text. Assumes nothing.
+-- `replies::print::put_text` meets its contract: it puts one text. Assumes nothing.
 use borrow.Author.Needs.{needs}
-use Rattle.protocol.proofs.Placing.{placed-after}
-use Rattle.protocol.proofs.replies.put_text.Statement.{statement}
-use Rattle.protocol.proofs.replies.put_text.Tie as tie
+use Rattle.replies.proofs.Placing.{placed-after}
+use Rattle.replies.proofs.print.put_text.Statement.{statement}
+use Rattle.replies.proofs.print.put_text.Tie as tie
 
 put-requires : tie.Need-put-requires
 put-requires c κs = search needs

@@ -1,9 +1,9 @@
--- `protocol::replies::put_natural` meets its contract: it puts one text after another. Assumes nothing.
+-- `replies::print::put_natural` meets its contract: it puts one text after another. Assumes nothing.
 use native.Mathlib.Omega.{arith}
 use borrow.Author.Needs.{needs}
-use Rattle.protocol.proofs.Placing.{placed-after}
-use Rattle.protocol.proofs.replies.put_natural.Statement.{statement}
-use Rattle.protocol.proofs.replies.put_natural.Tie as tie
+use Rattle.replies.proofs.Placing.{placed-after}
+use Rattle.replies.proofs.print.put_natural.Statement.{statement}
+use Rattle.replies.proofs.print.put_natural.Tie as tie
 
 slice-aggregate-put-text : tie.Need-slice-aggregate-put-text
 slice-aggregate-put-text c = search needs

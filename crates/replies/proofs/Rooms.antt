@@ -1,8 +1,8 @@
 -- A reply that has room in a list has room in a longer one, by cases on the reply. Assumes nothing.
 use Prim.Native.Nat.{ℕ, _≤_}
 use native.Mathlib.Omega.{arith}
-use Rattle.protocol.specs.Replies.{ListedIn}
-use Rattle.protocol.specs.declared.replies.Reply as reply
+use Rattle.replies.specs.Replies.{ListedIn}
+use Rattle.replies.specs.declared.forms.Reply as reply
 
 pub more-room : (m n : ℕ) (r : reply.Reply) → m ≤ n → ListedIn m r → ListedIn n r
 more-room m n reply.the-variants.Bad h l = tt

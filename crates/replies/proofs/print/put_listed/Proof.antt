@@ -1,12 +1,12 @@
--- `protocol::replies::put_listed` meets its contract and ends: a turn puts one fraction. Assumes nothing.
+-- `replies::print::put_listed` meets its contract and ends: a turn puts one fraction. Assumes nothing.
 use Prim.Native.Nat.{_-_}
 use mathlib.Core.Path.{_≡_}
 use native.Mathlib.Omega.{arith}
 use borrow.Author.Needs.{needs}
 use lib.ListN.{length}
-use Rattle.protocol.specs.Places.{After}
-use Rattle.protocol.proofs.replies.put_listed.Statement.{statement}
-use Rattle.protocol.proofs.replies.put_listed.Tie as tie
+use Rattle.replies.specs.Places.{After}
+use Rattle.replies.proofs.print.put_listed.Statement.{statement}
+use Rattle.replies.proofs.print.put_listed.Tie as tie
 
 abbrev Inv-loop : tie.InvT-loop
 Inv-loop out₀ at count n xs k₀ most i₀ out k i = (length out ≡ length out₀) × After (length out₀) at k

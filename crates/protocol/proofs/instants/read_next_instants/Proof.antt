@@ -1,4 +1,4 @@
--- `protocol::spans::read_next_instants` meets its contract: a turn reads one entry, and those that are left stand in what is left (`Reading.antt`). Assumes nothing.
+-- `protocol::instants::read_next_instants` meets its contract: a turn reads one entry, and those that are left stand in what is left (`Reading.antt`). Assumes nothing.
 use Prim.Native.Nat.{_-_, _≤_}
 use mathlib.Core.Path.{_≡_, _∙_}
 use native.Mathlib.Omega.{arith}
@@ -6,8 +6,8 @@ use borrow.Author.Needs.{needs}
 use lib.ListN.{length, drop}
 use Rattle.protocol.specs.Words.{entriesOf, nextInstant}
 use Rattle.protocol.proofs.Reading.{none-yet, one-more, not-one, no-more}
-use Rattle.protocol.proofs.spans.read_next_instants.Statement.{statement}
-use Rattle.protocol.proofs.spans.read_next_instants.Tie as tie
+use Rattle.protocol.proofs.instants.read_next_instants.Statement.{statement}
+use Rattle.protocol.proofs.instants.read_next_instants.Tie as tie
 
 abbrev Inv-loop : tie.InvT-loop
 Inv-loop s at ts₀ n a k₀ i₀ ts k i =

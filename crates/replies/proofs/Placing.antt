@@ -8,7 +8,7 @@ use borrow.Author.Tests.{leb-true}
 use lib.Dec.{leb}
 use lib.ListN.{length}
 use Rattle.text.specs.Print.{Placed, placeAfter}
-use Rattle.protocol.specs.Places.{After}
+use Rattle.replies.specs.Places.{After}
 
 by-room : (n at k r : ℕ) (room : Bool) → leb (at + k) n ≡ room → r ≡ cond room (at + k) at → After n at r
 by-room n at k r true h e =

@@ -1,78 +1,15 @@
-// The replies, and how each is printed.
-ghost use mathlib.Core.Bool.{true};
-ghost use mathlib.Core.Path.{_≡_};
+// How a reply is printed, but for a row for each span.
 ghost use lib.ListN.{length};
-ghost use Rattle.protocol.specs.Places.{After};
-ghost use Rattle.protocol.specs.declared.replies.Reply.the-variants.{Bad};
-use crate::fields;
+ghost use Rattle.replies.specs.Places.{After};
+use crate::forms::Reply;
+use crate::forms::Report;
+use crate::forms::Search;
 use moments::Five;
 use moments::Params;
-
-// How a walk ended, and the state after it.
-pub struct Report {
-    pub count: u64,
-    pub reason: u64,
-    pub parameters: Params,
-    pub error: f64,
-    pub new_moments: Five,
-}
-
-// How a search ended: its row, if there is one, and the state after it.
-pub struct Search {
-    pub is_row: bool,
-    pub row: Params,
-    pub row_error: f64,
-    pub parameters: Params,
-    pub error: f64,
-    pub epsilon: f64,
-    pub new_moments: Five,
-}
-
-// A row for each span: how many spans, whether one or two columns of fractions, and the place in the
-// request before its list of starts. The columns stand in a list beside the reply, the second from
-// the middle of the list on.
-pub struct SpanRows {
-    pub count: usize,
-    pub columns: usize,
-    pub starts: usize,
-}
-
-pub enum Reply {
-    // the line is no request
-    Bad,
-    // document 01's number
-    Refused(u64),
-    Fraction(f64),
-    Natural(u64),
-    Instant(i64),
-    Moments(Five),
-    Parameters(Params),
-    // of a step
-    Inadmissible,
-    Walked(Report),
-    Searched(Search),
-    // so many entries, of so many fractions in all, which stand in a list beside the reply
-    Listed(usize, usize),
-    Spanned(SpanRows),
-}
-
-pub fn is_bad(r: Reply) -> bool
-    ensures { λ yes. ⌜ (yes ≡ true → r ≡ Bad) ⌝ }
-{
-    match r {
-        Reply::Bad => true,
-        _ => false,
-    }
-}
-
-pub fn put_bad(out: &mut [u8], at: usize) -> usize
-    ensures { λ place. ⌜ After (length (now (out .entry))) at place ⌝ }
-{
-    put_text(out, at, b"bad\n")
-}
+use protocol::fields;
 
 // Puts an answer with its newline, and answers the place after it.
-pub fn put(out: &mut [u8], at: usize, r: Reply, xs: &[f64]) -> usize
+pub(crate) fn put_reply(out: &mut [u8], at: usize, r: Reply, xs: &[f64]) -> usize
     ensures { λ place. ⌜ After (length (now (out .entry))) at place ⌝ }
 {
     let k = put_words(out, at, r, xs);

@@ -1,0 +1,3 @@
+-- What the contracts of the replies say.
+pub mod Places
+pub mod Replies
