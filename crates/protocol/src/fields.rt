@@ -1,10 +1,10 @@
 // The words of a request.
-ghost use Prim.Native.Nat.{_≤_};
+ghost use Prim.Native.Nat.{min};
 ghost use mathlib.Core.Path.{_≡_};
-ghost use lib.ListN.{drop, length};
+ghost use lib.ListN.{drop, length, set};
 ghost use Rattle.text.specs.Decode.{word};
 ghost use Rattle.text.specs.Meaning.{instantIs, nextIs, numberIs};
-ghost use Rattle.protocol.specs.Words.{aFraction, entries, fractionIs, isGot, isRest, listIs, nextFraction, nextInstant, nextList, nextNatural, stateIs};
+ghost use Rattle.protocol.specs.Words.{aFraction, entries, fractionIs, fractionsIn, isGot, isRest, listIn, listIs, momentsAmong, nextFraction, nextInstant, nextList, nextNatural, nextState, paramsAmong, stateIs};
 use moments::Five;
 use moments::Params;
 use text::Instant;
@@ -69,7 +69,8 @@ pub fn read_next_instant(s: &[u8], at: usize) -> Instant
 
 // Reads fractions, as many as xs has places, each after a blank, and answers the place after them.
 pub fn read_next_fractions(s: &[u8], at: usize, xs: &mut [f64]) -> Next
-    ensures { λ r. ⌜ entries (length (now (xs .entry))) (drop at (now (s .entry))) ≡ nextIs (now (s .entry)) r ⌝ }
+    ensures { λ r. ⌜ (entries (length (now (xs .entry))) (drop at (now (s .entry))) ≡ nextIs (now (s .entry)) r)
+        × (now (xs .exit) ≡ fractionsIn (now (xs .entry)) (drop at (now (s .entry)))) ⌝ }
 {
     let n = xs.len();
     let mut k = at;
@@ -87,7 +88,8 @@ pub fn read_next_fractions(s: &[u8], at: usize, xs: &mut [f64]) -> Next
 
 // The same, where they are the rest of a request: answers whether they are.
 pub fn read_rest(s: &[u8], at: usize, xs: &mut [f64]) -> bool
-    ensures { λ r. ⌜ r ≡ isRest (entries (length (now (xs .entry))) (drop at (now (s .entry)))) ⌝ }
+    ensures { λ r. ⌜ (r ≡ isRest (entries (length (now (xs .entry))) (drop at (now (s .entry)))))
+        × (now (xs .exit) ≡ fractionsIn (now (xs .entry)) (drop at (now (s .entry)))) ⌝ }
 {
     let Next::At(k) = read_next_fractions(s, at, xs) else {
         return false;
@@ -101,7 +103,9 @@ pub enum State {
     No,
 }
 
-fn parameters_of(v: [f64; 11]) -> Params {
+fn parameters_of(v: [f64; 11]) -> Params
+    ensures { λ r. ⌜ r ≡ paramsAmong v ⌝ }
+{
     Params {
         mu_1: v[0],
         mu_2: v[1],
@@ -111,7 +115,9 @@ fn parameters_of(v: [f64; 11]) -> Params {
     }
 }
 
-fn moments_of(v: [f64; 11]) -> Five {
+fn moments_of(v: [f64; 11]) -> Five
+    ensures { λ r. ⌜ r ≡ momentsAmong v ⌝ }
+{
     Five {
         m_1: v[6],
         m_2: v[7],
@@ -123,7 +129,7 @@ fn moments_of(v: [f64; 11]) -> Five {
 
 // The state after a blank, eleven fractions.
 pub fn read_next_state(s: &[u8], at: usize) -> State
-    ensures { λ r. ⌜ entries 11 (drop at (now (s .entry))) ≡ stateIs (now (s .entry)) r ⌝ }
+    ensures { λ r. ⌜ nextState (drop at (now (s .entry))) ≡ stateIs (now (s .entry)) r ⌝ }
 {
     let mut v = [0.0f64; 11];
     let Next::At(k) = read_next_fractions(s, at, &mut v) else {
@@ -141,7 +147,8 @@ pub enum List {
 // The list of fractions after a blank: how many, then so many. Those that have no place in xs are
 // read and left out.
 pub fn read_next_list(s: &[u8], at: usize, xs: &mut [f64]) -> List
-    ensures { λ r. ⌜ nextList (drop at (now (s .entry))) ≡ listIs (now (s .entry)) r ⌝ }
+    ensures { λ r. ⌜ (nextList (drop at (now (s .entry))) ≡ listIs (now (s .entry)) r)
+        × (now (xs .exit) ≡ listIn nextFraction (now (xs .entry)) (drop at (now (s .entry)))) ⌝ }
 {
     let Number::Is(n, a) = read_next_natural(s, at, u64::MAX) else {
         return List::No;
@@ -159,7 +166,10 @@ pub fn read_next_list(s: &[u8], at: usize, xs: &mut [f64]) -> List
     List::Is(n as usize, k)
 }
 
-fn keep(xs: &mut [f64], i: u64, x: f64) {
+// Those that have no place are left out.
+fn keep(xs: &mut [f64], i: u64, x: f64)
+    ensures { λ _. ⌜ now (xs .exit) ≡ set (now (xs .entry)) i x ⌝ }
+{
     let at = i as usize;
     if at < xs.len() {
         xs[at] = x;
@@ -167,7 +177,7 @@ fn keep(xs: &mut [f64], i: u64, x: f64) {
 }
 
 pub fn least(a: usize, b: usize) -> usize
-    ensures { λ r. ⌜ (r ≤ a) × (r ≤ b) ⌝ }
+    ensures { λ r. ⌜ r ≡ min a b ⌝ }
 {
     if a < b { a } else { b }
 }

@@ -1,7 +1,7 @@
 // Lists of instants in a request.
 ghost use mathlib.Core.Path.{_≡_};
-ghost use lib.ListN.{drop};
-ghost use Rattle.protocol.specs.Words.{listIs, nextInstants};
+ghost use lib.ListN.{drop, set};
+ghost use Rattle.protocol.specs.Words.{listIn, listIs, nextInstant, nextInstants};
 use crate::fields;
 use crate::fields::List;
 use text::Instant;
@@ -10,7 +10,8 @@ use text::Number;
 // The list of instants after a blank: how many, then so many. Those that have no place in ts are
 // read and left out.
 pub fn read_next_instants(s: &[u8], at: usize, ts: &mut [i64]) -> List
-    ensures { λ r. ⌜ nextInstants (drop at (now (s .entry))) ≡ listIs (now (s .entry)) r ⌝ }
+    ensures { λ r. ⌜ (nextInstants (drop at (now (s .entry))) ≡ listIs (now (s .entry)) r)
+        × (now (ts .exit) ≡ listIn nextInstant (now (ts .entry)) (drop at (now (s .entry)))) ⌝ }
 {
     let Number::Is(n, a) = fields::read_next_natural(s, at, u64::MAX) else {
         return List::No;
@@ -28,7 +29,10 @@ pub fn read_next_instants(s: &[u8], at: usize, ts: &mut [i64]) -> List
     List::Is(n as usize, k)
 }
 
-fn keep(ts: &mut [i64], i: u64, t: i64) {
+// Those that have no place are left out.
+fn keep(ts: &mut [i64], i: u64, t: i64)
+    ensures { λ _. ⌜ now (ts .exit) ≡ set (now (ts .entry)) i t ⌝ }
+{
     let at = i as usize;
     if at < ts.len() {
         ts[at] = t;

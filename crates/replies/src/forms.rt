@@ -1,7 +1,6 @@
 // The replies.
-ghost use mathlib.Core.Bool.{true};
 ghost use mathlib.Core.Path.{_≡_};
-ghost use Rattle.replies.specs.declared.forms.Reply.the-variants.{Bad};
+ghost use Rattle.replies.specs.Replies.{isBad};
 use moments::Five;
 use moments::Params;
 
@@ -54,7 +53,7 @@ pub enum Reply {
 }
 
 pub fn is_bad(r: Reply) -> bool
-    ensures { λ yes. ⌜ (yes ≡ true → r ≡ Bad) ⌝ }
+    ensures { λ yes. ⌜ yes ≡ isBad r ⌝ }
 {
     match r {
         Reply::Bad => true,

@@ -1,6 +1,8 @@
 // The replies to requests, and how each is printed. Each crate of kinds of requests stands on this
 // one and on `protocol`.
 ghost use lib.ListN.{length};
+ghost use Rattle.text.specs.Bytes.{bytes};
+ghost use Rattle.text.specs.Print.{Placed};
 ghost use Rattle.replies.specs.Places.{After};
 
 pub mod forms; // forms.rt: the replies
@@ -14,9 +16,9 @@ pub use forms::SpanRows;
 pub use forms::is_bad;
 
 pub fn put_bad(out: &mut [u8], at: usize) -> usize
-    ensures { λ place. ⌜ After (length (now (out .entry))) at place ⌝ }
+    ensures { λ place. ⌜ Placed (now (out .entry)) (now (out .exit)) at place (bytes "bad\n") ⌝ }
 {
-    print::put_text(out, at, b"bad\n")
+    text::put(out, at, b"bad\n")
 }
 
 // Puts an answer with its newline, and answers the place after it. The starts of rows are read from

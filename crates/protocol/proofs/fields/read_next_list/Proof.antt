@@ -1,17 +1,19 @@
--- `protocol::fields::read_next_list` meets its contract: a turn reads one entry, and those that are left stand in what is left (`Reading.antt`). Assumes nothing.
+-- `protocol::fields::read_next_list` meets its contract: a turn reads and keeps one entry, and those that are left stand in what is left (`Reading.antt`). Assumes nothing.
 use Prim.Native.Nat.{_-_, _≤_}
-use mathlib.Core.Path.{_≡_, _∙_}
+use mathlib.Core.Path.{_≡_, sym, _∙_}
 use native.Mathlib.Omega.{arith}
 use borrow.Author.Needs.{needs}
 use lib.ListN.{length, drop}
-use Rattle.protocol.specs.Words.{entries, nextFraction}
-use Rattle.protocol.proofs.Reading.{none-yet, one-more, not-one, no-more}
+use lib.Seq.{sets}
+use Rattle.protocol.specs.Words.{entries, nextFraction, valuesOf}
+use Rattle.protocol.proofs.Reading.{none-yet, one-more, not-one, no-more, none-stored, one-stored, not-stored, all-stored}
 use Rattle.protocol.proofs.fields.read_next_list.Statement.{statement}
 use Rattle.protocol.proofs.fields.read_next_list.Tie as tie
 
 abbrev Inv-loop : tie.InvT-loop
 Inv-loop s at xs₀ n a k₀ i₀ xs k i =
     (length xs ≡ length xs₀) × (i ≤ n) × (entries n (drop a s) ≡ entries (n - i) (drop k s))
+    × (sets xs₀ 0 (valuesOf nextFraction n (drop a s)) ≡ sets xs i (valuesOf nextFraction (n - i) (drop k s)))
 
 abbrev μ-loop : tie.MeasureT-loop
 μ-loop s at xs₀ n a k₀ i₀ xs k i = n - i
@@ -27,11 +29,12 @@ enum-told c = search needs
 
 returns : tie.Need-returns Inv-loop μ-loop
 returns c =
-    rw (c .before .before .read-next-natural .ensures, c .enum-told .given .1)
+    let n = c .before .before .read-next-natural .ensures in
+    (rw (n, c .enum-told .given .1), rw (n, c .enum-told .given .1))
 
 loop-holds : tie.Need-loop-holds Inv-loop μ-loop
 loop-holds c =
-    (search needs, search needs, none-yet nextFraction _ _)
+    (search needs, search needs, none-yet nextFraction _ _, none-stored nextFraction _ _ _)
 
 read-next-fraction-requires : tie.Need-read-next-fraction-requires Inv-loop μ-loop
 read-next-fraction-requires c κs = search needs
@@ -47,8 +50,12 @@ same-length c = search needs
 
 returns-2 : tie.Need-returns-2 Inv-loop μ-loop
 returns-2 c =
-    let e = rw (c .enum-told2 .given .1) at (c .before .before .read-next-fraction .ensures) in
-    rw (c .before .before .before .before .before .before .before .before .read-next-natural .ensures, c .before .before .before .before .before .before .n .given .1, c .before .before .before .before .loop .inv .2 ∙ not-one nextFraction _ _ _ (omega arith) e)
+    let l = c .before .before .before .before .loop in
+    let n = c .before .before .before .before .before .before in
+    let e = rw (c .enum-told2 .given .1) at (c .before .before .read-next-fraction .ensures) in (
+      rw (n .before .before .read-next-natural .ensures, n .n .given .1, l .inv .2 ∙ not-one nextFraction _ _ _ (omega arith) e),
+      rw (n .before .before .read-next-natural .ensures, n .n .given .1) (sym (l .inv .3 ∙ not-stored nextFraction _ _ _ _ (omega arith) e)),
+    )
 
 keep-requires : tie.Need-keep-requires Inv-loop μ-loop
 keep-requires c κs = search needs
@@ -61,15 +68,25 @@ loop-less c = omega arith
 
 loop-again : tie.Need-loop-again Inv-loop μ-loop
 loop-again c =
-    let e = rw (c .before .before .before .before .before .x .given .1) at (c .before .before .before .before .before .before .before .read-next-fraction .ensures) in
-    (search needs, omega arith, c .before .before .before .before .before .before .before .before .before .loop .inv .2 ∙ one-more nextFraction _ _ _ _ _ (omega arith) e)
+    let d = c .before .before .before .before .before in
+    let l = d .before .before .before .before .loop in
+    let e = rw (d .x .given .1) at (d .before .before .read-next-fraction .ensures) in (
+      search needs,
+      omega arith,
+      l .inv .2 ∙ one-more nextFraction _ _ _ _ _ (omega arith) e,
+      rw (c .before .before .keep .ensures) (l .inv .3 ∙ one-stored nextFraction _ _ _ _ _ _ (omega arith) e),
+    )
 
 same-length-2 : tie.Need-same-length-2 Inv-loop μ-loop
 same-length-2 c = search needs
 
 returns-3 : tie.Need-returns-3 Inv-loop μ-loop
 returns-3 c =
-    rw (c .before .before .before .before .before .read-next-natural .ensures, c .before .before .before .n .given .1, c .before .loop .inv .2 ∙ no-more nextFraction _ _ _ (omega arith))
+    let l = c .before .loop in
+    let n = c .before .before .before in (
+      rw (n .before .before .read-next-natural .ensures, n .n .given .1, l .inv .2 ∙ no-more nextFraction _ _ _ (omega arith)),
+      rw (n .before .before .read-next-natural .ensures, n .n .given .1) (sym (l .inv .3 ∙ all-stored nextFraction _ _ _ _ (omega arith))),
+    )
 
 pub read-next-list-spec : {M : Type 1} → statement M
 read-next-list-spec =

@@ -1,5 +1,9 @@
--- `protocol::fields::read_next_state` meets its contract, by whether the eleven fractions are there. Assumes nothing.
+-- `protocol::fields::read_next_state` meets its contract, by whether the eleven fractions are there (`a-state`). Assumes nothing.
+use mathlib.Core.Path.{refl}
 use borrow.Author.Needs.{needs}
+use lib.Ieee.{binary64, ofBits}
+use lib.ListN.{replicate}
+use Rattle.protocol.proofs.Reading.{a-state, entriesFrom, no-state}
 use Rattle.protocol.proofs.fields.read_next_state.Statement.{statement}
 use Rattle.protocol.proofs.fields.read_next_state.Tie as tie
 
@@ -16,7 +20,8 @@ enum-told : tie.Need-enum-told
 enum-told c = search needs
 
 returns : tie.Need-returns
-returns c = rw (c .enum-told .given .1) at (c .before .before .before .read-next-fractions .ensures)
+returns c =
+    no-state _ (rw (c .enum-told .given .1) at (c .before .before .before .read-next-fractions .ensures .0))
 
 parameters-of-requires : tie.Need-parameters-of-requires
 parameters-of-requires c κs = search needs
@@ -28,9 +33,12 @@ moments-of-requires : tie.Need-moments-of-requires
 moments-of-requires c κs = search needs
 
 returns-2 : tie.Need-returns-2
+unfolding entriesFrom
 returns-2 c =
     let d = c .before .before .before in
-    rw (d .k .given .1) at (d .before .before .before .read-next-fractions .ensures)
+    let r = d .before .before .before .read-next-fractions .ensures in
+    rw (c .moments-of .ensures, c .before .parameters-of .ensures)
+    (a-state _ _ (replicate 11 (ofBits binary64 0)) _ refl (rw (d .k .given .1) at (r .0)) (r .1))
 
 pub read-next-state-spec : {M : Type 1} → statement M
 read-next-state-spec =

@@ -18,7 +18,9 @@ same-length : tie.Need-same-length
 same-length c = search needs
 
 returns : tie.Need-returns
-returns c = rw (c .before .before .before .before .read-next-fractions .ensures, c .enum-told .given .1)
+returns c =
+    let d = c .before .before .before .before .read-next-fractions in
+    (rw (d .ensures .0, c .enum-told .given .1), d .ensures .1)
 
 same-length-2 : tie.Need-same-length-2
 same-length-2 c = search needs
@@ -26,7 +28,7 @@ same-length-2 c = search needs
 returns-2 : tie.Need-returns-2
 returns-2 c =
     let d = c .before .before .before .before .before in
-    rw (d .read-next-fractions .ensures, c .before .k .given .1) (sym (nil-past (d .before .before .before .before .args .s .now) (c .before .k .given .0 .0)))
+    (rw (d .read-next-fractions .ensures .0, c .before .k .given .1) (sym (nil-past (d .before .before .before .before .args .s .now) (c .before .k .given .0 .0))), d .read-next-fractions .ensures .1)
 
 pub read-rest-spec : {M : Type 1} → statement M
 read-rest-spec =

@@ -1,17 +1,21 @@
--- `protocol::instants::read_next_instants` meets its contract: a turn reads one entry, and those that are left stand in what is left (`Reading.antt`). Assumes nothing.
+-- `protocol::instants::read_next_instants` meets its contract: a turn reads and keeps one entry, and those that are left stand in what is left (`Reading.antt`). Assumes nothing.
 use Prim.Native.Nat.{_-_, _≤_}
-use mathlib.Core.Path.{_≡_, _∙_}
+use mathlib.Core.Path.{_≡_, sym, _∙_}
 use native.Mathlib.Omega.{arith}
 use borrow.Author.Needs.{needs}
+use mir.Syntax.{w64}
+use mir.ValLaws.{toZ-ofZ}
 use lib.ListN.{length, drop}
-use Rattle.protocol.specs.Words.{entriesOf, nextInstant}
-use Rattle.protocol.proofs.Reading.{none-yet, one-more, not-one, no-more}
+use lib.Seq.{sets}
+use Rattle.protocol.specs.Words.{entriesOf, nextInstant, valuesOf}
+use Rattle.protocol.proofs.Reading.{none-yet, one-more, not-one, no-more, none-stored, one-stored, not-stored, all-stored}
 use Rattle.protocol.proofs.instants.read_next_instants.Statement.{statement}
 use Rattle.protocol.proofs.instants.read_next_instants.Tie as tie
 
 abbrev Inv-loop : tie.InvT-loop
 Inv-loop s at ts₀ n a k₀ i₀ ts k i =
     (length ts ≡ length ts₀) × (i ≤ n) × (entriesOf nextInstant n (drop a s) ≡ entriesOf nextInstant (n - i) (drop k s))
+    × (sets ts₀ 0 (valuesOf nextInstant n (drop a s)) ≡ sets ts i (valuesOf nextInstant (n - i) (drop k s)))
 
 abbrev μ-loop : tie.MeasureT-loop
 μ-loop s at ts₀ n a k₀ i₀ ts k i = n - i
@@ -27,11 +31,12 @@ enum-told c = search needs
 
 returns : tie.Need-returns Inv-loop μ-loop
 returns c =
-    rw (c .before .before .read-next-natural .ensures, c .enum-told .given .1)
+    let n = c .before .before .read-next-natural .ensures in
+    (rw (n, c .enum-told .given .1), rw (n, c .enum-told .given .1))
 
 loop-holds : tie.Need-loop-holds Inv-loop μ-loop
 loop-holds c =
-    (search needs, search needs, none-yet nextInstant _ _)
+    (search needs, search needs, none-yet nextInstant _ _, none-stored nextInstant _ _ _)
 
 read-next-instant-requires : tie.Need-read-next-instant-requires Inv-loop μ-loop
 read-next-instant-requires c κs = search needs
@@ -47,8 +52,12 @@ same-length c = search needs
 
 returns-2 : tie.Need-returns-2 Inv-loop μ-loop
 returns-2 c =
-    let e = rw (c .enum-told2 .given .1) at (c .before .before .read-next-instant .ensures) in
-    rw (c .before .before .before .before .before .before .before .before .read-next-natural .ensures, c .before .before .before .before .before .before .n .given .1, c .before .before .before .before .loop .inv .2 ∙ not-one nextInstant _ _ _ (omega arith) e)
+    let l = c .before .before .before .before .loop in
+    let n = c .before .before .before .before .before .before in
+    let e = rw (c .enum-told2 .given .1) at (c .before .before .read-next-instant .ensures) in (
+      rw (n .before .before .read-next-natural .ensures, n .n .given .1, l .inv .2 ∙ not-one nextInstant _ _ _ (omega arith) e),
+      rw (n .before .before .read-next-natural .ensures, n .n .given .1) (sym (l .inv .3 ∙ not-stored nextInstant _ _ _ _ (omega arith) e)),
+    )
 
 keep-requires : tie.Need-keep-requires Inv-loop μ-loop
 keep-requires c κs = search needs
@@ -61,15 +70,25 @@ loop-less c = omega arith
 
 loop-again : tie.Need-loop-again Inv-loop μ-loop
 loop-again c =
-    let e = rw (c .before .before .before .before .t .given .1) at (c .before .before .before .before .before .before .read-next-instant .ensures) in
-    (search needs, omega arith, c .before .before .before .before .before .before .before .before .loop .inv .2 ∙ one-more nextInstant _ _ _ _ _ (omega arith) e)
+    let d = c .before .before .before .before in
+    let l = d .before .before .before .before .loop in
+    let e = rw (d .t .given .1) at (d .before .before .read-next-instant .ensures) in (
+      search needs,
+      omega arith,
+      l .inv .2 ∙ one-more nextInstant _ _ _ _ _ (omega arith) e,
+      rw (c .before .keep .ensures, toZ-ofZ w64 (d .t .given .0 .0) (record { sfits = c .before .before .before .known-told2 .given .0 .1 })) (l .inv .3 ∙ one-stored nextInstant _ _ _ _ _ _ (omega arith) e),
+    )
 
 same-length-2 : tie.Need-same-length-2 Inv-loop μ-loop
 same-length-2 c = search needs
 
 returns-3 : tie.Need-returns-3 Inv-loop μ-loop
 returns-3 c =
-    rw (c .before .before .before .before .before .read-next-natural .ensures, c .before .before .before .n .given .1, c .before .loop .inv .2 ∙ no-more nextInstant _ _ _ (omega arith))
+    let l = c .before .loop in
+    let n = c .before .before .before in (
+      rw (n .before .before .read-next-natural .ensures, n .n .given .1, l .inv .2 ∙ no-more nextInstant _ _ _ (omega arith)),
+      rw (n .before .before .read-next-natural .ensures, n .n .given .1) (sym (l .inv .3 ∙ all-stored nextInstant _ _ _ _ (omega arith))),
+    )
 
 pub read-next-instants-spec : {M : Type 1} → statement M
 read-next-instants-spec =
