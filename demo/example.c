@@ -2,6 +2,7 @@
    (include/build writes the library; demo/check does all and compares what is printed). */
 #include <stdio.h>
 #include <stdlib.h>
+#include <string.h>
 #include "woddirme.h"
 
 static void must(const char *what, uint64_t refusal) {
@@ -46,9 +47,20 @@ static void price_limit_order(void) {
     printf("refused by %llu, price still %.6f\n", (unsigned long long)refusal, price);
 }
 
+/* Counts a sheet of the same three orders. */
+static void count_sheet(void) {
+    const char *sheet = "(span (from 0) (to 10) (side 3ff0000000000000))\n"
+                        "(span (from 5) (to 15) (side bff0000000000000))\n"
+                        "(span (from 10) (to 20) (side 3ff0000000000000))\n";
+    static uint8_t answer[131072]; /* enough for every sheet */
+    size_t length = woddirme_count_sheet((const uint8_t *)sheet, strlen(sheet), answer, sizeof answer);
+    fwrite(answer, 1, length, stdout);
+}
+
 int main(void) {
     fit_moments();
     size_budget();
     price_limit_order();
+    count_sheet();
     return 0;
 }

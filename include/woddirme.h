@@ -166,6 +166,17 @@ double woddirme_inv_price_sigmoid(double forecast_price, double w_param, double 
 uint64_t woddirme_limit_price_sigmoid(
     double t_pos, double pos, double f, double w, double max_pos, double *price);
 
+/* ---- The count sheet. */
+
+/* Reads a sheet, any bytes, and puts its answer at the front of `out`: a row for each span, in order, or
+   the one line that refuses the sheet, `(refused 11)` or `(refused 15 LINE)`. README.md shows the forms.
+   Answers the length of the answer in bytes; no zero byte closes either text. Where `out` has too little
+   room it stays as it was and 0 is answered; 0 is also the length of the answer to no bytes. 131,072
+   bytes are always enough. */
+size_t woddirme_count_sheet(
+    const uint8_t *sheet, size_t sheet_len,
+    uint8_t *out, size_t out_len);
+
 /* ---- Numbers. Each rounds once where it rounds. */
 
 /* The square root: NaN at a NaN and below zero; a zero keeps its sign. */
@@ -187,14 +198,5 @@ double woddirme_powi(double x, size_t n);
 #ifdef __cplusplus
 }
 #endif
-
-/* The count sheet, in target/staticlib/libcapi_sheet.a (`rt staticlib capi_sheet`): `sheet` points to the
-   bytes of a sheet, any bytes, and `out` to room for its answer. The answer is put at the front of `out`
-   and its length in bytes is returned: a row for each span, in order, or the one line that refuses the
-   sheet, `(refused 11)` or `(refused 15 LINE)`. Document 01, "Span and row forms", has the forms. No
-   zero byte closes either text. Where `out` has too little room it is left as it was and 0 is returned;
-   0 is also the length of the answer to no bytes. 131,072 bytes are always enough, and what lies behind
-   the answer is left as it was. */
-size_t woddirme_count_sheet(const uint8_t *sheet, size_t sheet_len, uint8_t *out, size_t out_len);
 
 #endif

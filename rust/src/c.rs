@@ -134,4 +134,11 @@ extern "C" {
         max_pos: f64,
         price: *mut f64,
     ) -> u64;
+
+    pub fn woddirme_count_sheet(
+        sheet: *const u8,
+        sheet_len: usize,
+        out: *mut u8,
+        out_len: usize,
+    ) -> usize;
 }

@@ -1,6 +1,7 @@
 //! The proved port of openquant's EF3M fit, concurrent counts, budget sizes and limit prices, under
-//! openquant's names. Answers are openquant's, bit for bit, all NaNs counting as one; what openquant
-//! draws at random is here a lent list of weights, and what is turned away is [`Refused`] by a number.
+//! openquant's names; and the count sheet. Answers are openquant's, bit for bit, all NaNs counting as one;
+//! what openquant draws at random is here a lent list of weights, and what is turned away is [`Refused`]
+//! by a number.
 //!
 //! ```
 //! use woddirme::{ef3m::centered_moment, Refused};
@@ -16,6 +17,7 @@ pub mod bet_sizing;
 mod c;
 pub mod ef3m;
 pub mod number;
+pub mod sheet;
 
 use std::fmt::{Display, Formatter};
 

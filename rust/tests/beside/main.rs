@@ -4,6 +4,9 @@
 mod bets;
 mod fits;
 #[allow(dead_code)]
+#[path = "../../../oracle/sheets/src/lines.rs"]
+mod lines;
+#[allow(dead_code)]
 #[path = "../../../oracle/src/bin/generate/mixture.rs"]
 mod mixture;
 mod moments;
@@ -11,6 +14,7 @@ mod numbers;
 #[allow(dead_code)]
 #[path = "../../../oracle/src/bin/generate/rng.rs"]
 mod rng;
+mod sheets;
 mod steps;
 #[allow(dead_code)]
 #[path = "../../../oracle/src/bin/generate/values.rs"]
