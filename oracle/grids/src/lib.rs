@@ -1,11 +1,9 @@
 //! The port's static library beside the Rust: the fit over grids too large for a request line, and
-//! the counts, the budget and the limit price over more spans and lots than fit one.
+//! the counts and the budget over more spans than fit one.
 
 pub mod ask;
 pub mod cases;
-pub mod clock;
 pub mod port;
-pub mod prices;
 pub mod rust;
 pub mod spans;
 

@@ -6,11 +6,6 @@ use oracle::ef3m::{FitResultRow, M2N};
 /// The Rust's own answer; it knows none of the port's limits, so the ask must keep within them.
 pub fn answer(ask: &Ask) -> Left {
     draw(ask);
-    drawn(ask)
-}
-
-/// The same with the draws set already.
-pub fn drawn(ask: &Ask) -> Left {
     match ask.runs {
         None => single_fit(ask),
         Some(_) => mp_fit(ask),
@@ -52,7 +47,7 @@ fn state(ask: &Ask) -> M2N {
 }
 
 /// The shim draws from the list's front: surplus weights are not drawn.
-pub fn draw(ask: &Ask) {
+fn draw(ask: &Ask) {
     rand::set_draws(ask.weights[..ask.needed()].to_vec());
 }
 

@@ -37,7 +37,7 @@ pub fn answer(ask: &Ask) -> Left {
     left
 }
 
-pub fn counts(ask: &Ask, long: &mut [f64], short: &mut [f64]) -> u64 {
+fn counts(ask: &Ask, long: &mut [f64], short: &mut [f64]) -> u64 {
     // Every pointer stands for a slice that lives through the call, and those written are apart.
     unsafe {
         woddirme_get_concurrent_sides(

@@ -4,10 +4,8 @@ use super::{Ask, Left, Lent};
 use chrono::NaiveDateTime;
 use oracle::bet_sizing::{bet_size_budget, get_concurrent_sides};
 
-/// A span as the Rust has it.
-pub type Span = (NaiveDateTime, NaiveDateTime);
-
-pub fn spans(ask: &Ask) -> Vec<Span> {
+/// The spans as the Rust has them.
+fn spans(ask: &Ask) -> Vec<(NaiveDateTime, NaiveDateTime)> {
     let starts = ask.starts.iter().copied().map(NaiveDateTime);
     starts
         .zip(ask.ends.iter().copied().map(NaiveDateTime))
