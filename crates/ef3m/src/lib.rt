@@ -71,10 +71,10 @@ pub fn single_fit_through(m: M2N, e: Epsilon, weights: &[f64]) -> Fitted
     let f = Fitter { m2n: m };
     let r = through(f, e, weights);
     let state = r.state.m2n;
-    let outcome = r.outcome;
+    let how = r.outcome;
     Fitted {
         state: state,
-        outcome: outcome,
+        outcome: how,
     }
 }
 
