@@ -4,9 +4,7 @@
 ghost use Rattle.replies.specs.Replies.{ListedIn};
 ghost use lib.ListN.{length};
 use bet_sizing::Outcome;
-use protocol::fields;
-use protocol::fields::List;
-use protocol::instants;
+use protocol_lists::List;
 use replies::Reply;
 use replies::SpanRows;
 use text::Number;
@@ -15,10 +13,10 @@ use text::Number;
 pub fn answer(s: &[u8], xs: &mut [f64]) -> Reply
     ensures { λ r. ⌜ ListedIn (length (now (xs .entry))) r ⌝ }
 {
-    if fields::begins(s, b"concurrent_sides ") {
+    if protocol::begins(s, b"concurrent_sides ") {
         return concurrent_sides(s, 16, xs);
     }
-    if fields::begins(s, b"budget ") {
+    if protocol::begins(s, b"budget ") {
         return budget(s, 6, xs);
     }
     Reply::Bad
@@ -41,16 +39,16 @@ enum Asked {
 
 // The rest of a request.
 fn read(s: &[u8], at: usize, starts: &mut [i64], ends: &mut [i64], sides: &mut [f64]) -> Asked {
-    let Number::Is(room, a) = fields::read_next_natural(s, at, u64::MAX) else {
+    let Number::Is(room, a) = protocol::read_next_natural(s, at, u64::MAX) else {
         return Asked::No;
     };
-    let List::Is(n_starts, b) = instants::read_next_instants(s, a, starts) else {
+    let List::Is(n_starts, b) = protocol_lists::read_next_instants(s, a, starts) else {
         return Asked::No;
     };
-    let List::Is(n_ends, c) = instants::read_next_instants(s, b, ends) else {
+    let List::Is(n_ends, c) = protocol_lists::read_next_instants(s, b, ends) else {
         return Asked::No;
     };
-    let List::Is(n_sides, e) = fields::read_next_list(s, c, sides) else {
+    let List::Is(n_sides, e) = protocol_lists::read_next_list(s, c, sides) else {
         return Asked::No;
     };
     if e != s.len() {
@@ -75,7 +73,7 @@ fn fractions_room() -> [f64; 4096] {
 
 // Copies as many as both lists have.
 fn copy(x: &[f64], y: &mut [f64]) {
-    let n = fields::least(x.len(), y.len());
+    let n = protocol::least(x.len(), y.len());
     let mut i = 0;
     while i < n {
         y[i] = x[i];
@@ -94,11 +92,11 @@ fn sides_reply(
 ) -> Reply
     ensures { λ r. ⌜ ListedIn (length (now (xs .entry))) r ⌝ }
 {
-    let n_starts = fields::least(g.starts, starts.len());
-    let n_ends = fields::least(g.ends, ends.len());
-    let n_sides = fields::least(g.sides, sides.len());
+    let n_starts = protocol::least(g.starts, starts.len());
+    let n_ends = protocol::least(g.ends, ends.len());
+    let n_sides = protocol::least(g.sides, sides.len());
     let half = xs.len() / 2;
-    let room = fields::least(g.room, fields::least(short.len(), half));
+    let room = protocol::least(g.room, protocol::least(short.len(), half));
     let r = bet_sizing::get_concurrent_sides(
         &starts[..n_starts],
         &ends[..n_ends],
@@ -147,10 +145,10 @@ fn concurrent_sides(s: &[u8], at: usize, xs: &mut [f64]) -> Reply
 fn sizes_reply(g: Given, starts: &[i64], ends: &[i64], sides: &[f64], xs: &mut [f64]) -> Reply
     ensures { λ r. ⌜ ListedIn (length (now (xs .entry))) r ⌝ }
 {
-    let n_starts = fields::least(g.starts, starts.len());
-    let n_ends = fields::least(g.ends, ends.len());
-    let n_sides = fields::least(g.sides, sides.len());
-    let room = fields::least(g.room, xs.len());
+    let n_starts = protocol::least(g.starts, starts.len());
+    let n_ends = protocol::least(g.ends, ends.len());
+    let n_sides = protocol::least(g.sides, sides.len());
+    let room = protocol::least(g.room, xs.len());
     let r = bet_sizing::bet_size_budget(
         &starts[..n_starts],
         &ends[..n_ends],

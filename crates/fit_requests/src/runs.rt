@@ -11,7 +11,6 @@ use ef3m::Runs;
 use grid::Filled;
 use grid::FitResultRow;
 use grid::Flat;
-use protocol::fields;
 use replies::Reply;
 use text::Number;
 use walk::M2N;
@@ -26,7 +25,7 @@ pub fn answer(s: &[u8], xs: &mut [f64]) -> Reply
     if xs.len() < MOST {
         return Reply::Bad;
     }
-    if fields::begins(s, b"mp_fit ") {
+    if protocol::begins(s, b"mp_fit ") {
         return mp_fit(s, 6, xs);
     }
     Reply::Bad
@@ -39,10 +38,10 @@ enum Asked {
 }
 
 fn read_asked(s: &[u8], at: usize) -> Asked {
-    let Number::Is(runs, a) = fields::read_next_natural(s, at, u64::MAX) else {
+    let Number::Is(runs, a) = protocol::read_next_natural(s, at, u64::MAX) else {
         return Asked::No;
     };
-    let Number::Is(places, b) = fields::read_next_natural(s, a, u64::MAX) else {
+    let Number::Is(places, b) = protocol::read_next_natural(s, a, u64::MAX) else {
         return Asked::No;
     };
     Asked::Are(runs, places, b)
@@ -87,7 +86,7 @@ fn reply(o: Filled) -> Reply
 {
     match o {
         Filled::Unfilled(number) => Reply::Refused(number),
-        Filled::Rows(n) => rows_reply(fields::least(n, 64)),
+        Filled::Rows(n) => rows_reply(protocol::least(n, 64)),
     }
 }
 

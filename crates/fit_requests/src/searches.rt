@@ -11,8 +11,7 @@ use grid::FitResultRow;
 use grid::Fitted;
 use grid::Outcome;
 use moments::Params;
-use protocol::fields;
-use protocol::fields::Fraction;
+use protocol::Fraction;
 use replies::Reply;
 use replies::Search;
 use text::Next;
@@ -22,7 +21,7 @@ use walk::M2N;
 pub fn answer(s: &[u8], xs: &mut [f64]) -> Reply
     ensures { λ r. ⌜ Unlisted r ⌝ }
 {
-    if fields::begins(s, b"single_fit ") {
+    if protocol::begins(s, b"single_fit ") {
         return single_fit(s, 10, xs);
     }
     Reply::Bad
@@ -35,7 +34,7 @@ enum Given {
 }
 
 fn read_given(s: &[u8], at: usize) -> Given {
-    let own = text::read_word(s, at, b" -");
+    let own = text_read::read_word(s, at, b" -");
     match own {
         Next::At(a) => Given::Is(Epsilon::Own, a),
         Next::No => read_override(s, at),
@@ -43,7 +42,7 @@ fn read_given(s: &[u8], at: usize) -> Given {
 }
 
 fn read_override(s: &[u8], at: usize) -> Given {
-    let Fraction::Is(epsilon, a) = fields::read_next_fraction(s, at) else {
+    let Fraction::Is(epsilon, a) = protocol::read_next_fraction(s, at) else {
         return Given::No;
     };
     Given::Is(Epsilon::Override(epsilon), a)

@@ -2,10 +2,9 @@
 use grid::FitResultRow;
 use moments::Five;
 use moments::Params;
-use protocol::fields;
-use protocol::fields::Fraction;
-use protocol::fields::List;
-use protocol::fields::State;
+use protocol::Fraction;
+use protocol_lists::List;
+use protocol_lists::State;
 use text::Number;
 use walk::M2N;
 
@@ -17,13 +16,13 @@ pub(crate) enum Head {
 
 // The words that a request begins with, its moments into m.
 pub(crate) fn read_head(s: &[u8], at: usize, m: &mut [f64]) -> Head {
-    let Number::Is(variant, a) = fields::read_next_natural(s, at, u64::MAX) else {
+    let Number::Is(variant, a) = protocol::read_next_natural(s, at, u64::MAX) else {
         return Head::No;
     };
-    let List::Is(len, b) = fields::read_next_list(s, a, m) else {
+    let List::Is(len, b) = protocol_lists::read_next_list(s, a, m) else {
         return Head::No;
     };
-    let Fraction::Is(epsilon, c) = fields::read_next_fraction(s, b) else {
+    let Fraction::Is(epsilon, c) = protocol::read_next_fraction(s, b) else {
         return Head::No;
     };
     Head::Is(variant, len, epsilon, c)
@@ -36,10 +35,10 @@ pub(crate) enum Limits {
 }
 
 pub(crate) fn read_limits(s: &[u8], at: usize) -> Limits {
-    let Fraction::Is(factor, a) = fields::read_next_fraction(s, at) else {
+    let Fraction::Is(factor, a) = protocol::read_next_fraction(s, at) else {
         return Limits::No;
     };
-    let Number::Is(max_iter, b) = fields::read_next_natural(s, a, u64::MAX) else {
+    let Number::Is(max_iter, b) = protocol::read_next_natural(s, a, u64::MAX) else {
         return Limits::No;
     };
     Limits::Are(factor, max_iter, b)
@@ -53,10 +52,10 @@ pub(crate) enum Tail {
 
 // The words that a request ends with, its weights into xs.
 pub(crate) fn read_tail(s: &[u8], at: usize, xs: &mut [f64]) -> Tail {
-    let State::Is(parameters, error, new_moments, a) = fields::read_next_state(s, at) else {
+    let State::Is(parameters, error, new_moments, a) = protocol_lists::read_next_state(s, at) else {
         return Tail::No;
     };
-    let List::Is(n, e) = fields::read_next_list(s, a, xs) else {
+    let List::Is(n, e) = protocol_lists::read_next_list(s, a, xs) else {
         return Tail::No;
     };
     if e != s.len() {
@@ -104,6 +103,6 @@ pub(crate) fn no_row() -> FitResultRow {
 
 // The n weights that were read into xs. The program's list has more places than a line has weights.
 pub(crate) fn weights_in(xs: &[f64], n: usize) -> &[f64] {
-    let k = fields::least(n, xs.len());
+    let k = protocol::least(n, xs.len());
     &xs[..k]
 }

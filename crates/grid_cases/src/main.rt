@@ -44,12 +44,12 @@ fn on_m(variant: usize, epsilon: f64) -> M2N {
 }
 
 fn put_number(out: &mut [u8], at: usize, x: f64) -> usize {
-    let k = text::put(out, at, b" ");
-    text::put_hex(out, k, text::bits_of(x))
+    let k = text_write::put(out, at, b" ");
+    text_write::put_hex(out, k, text_bits::bits_of(x))
 }
 
 fn put_row(out: &mut [u8], r: FitResultRow) -> usize {
-    let a = text::put(out, 0, b"row");
+    let a = text_write::put(out, 0, b"row");
     let b = put_number(out, a, r.mu_1);
     let c = put_number(out, b, r.mu_2);
     let d = put_number(out, c, r.sigma_1);
@@ -59,13 +59,13 @@ fn put_row(out: &mut [u8], r: FitResultRow) -> usize {
 }
 
 fn put_refused(out: &mut [u8], number: u64) -> usize {
-    let k = text::put(out, 0, b"refused ");
-    text::put_decimal(out, k, number)
+    let k = text_write::put(out, 0, b"refused ");
+    text_write::put_decimal(out, k, number)
 }
 
 fn put_best(out: &mut [u8], best: Best) -> usize {
     match best {
-        Best::Nothing => text::put(out, 0, b"no row"),
+        Best::Nothing => text_write::put(out, 0, b"no row"),
         Best::Row(r) => put_row(out, r),
     }
 }

@@ -1,8 +1,7 @@
 // Requests of the number leaves. The function of each takes the request and the place after its
 // name.
 ghost use Rattle.replies.specs.Replies.{Unlisted};
-use protocol::fields;
-use protocol::fields::Fraction;
+use protocol::Fraction;
 use replies::Reply;
 use text::Instant;
 use text::Number;
@@ -20,16 +19,16 @@ pub fn answer(s: &[u8]) -> Reply
 fn of_numbers(s: &[u8]) -> Reply
     ensures { λ r. ⌜ Unlisted r ⌝ }
 {
-    if fields::begins(s, b"sqrt ") {
+    if protocol::begins(s, b"sqrt ") {
         return sqrt(s, 4);
     }
-    if fields::begins(s, b"abs ") {
+    if protocol::begins(s, b"abs ") {
         return abs(s, 3);
     }
-    if fields::begins(s, b"larger ") {
+    if protocol::begins(s, b"larger ") {
         return larger(s, 6);
     }
-    if fields::begins(s, b"powi ") {
+    if protocol::begins(s, b"powi ") {
         return powi(s, 4);
     }
     Reply::Bad
@@ -38,16 +37,16 @@ fn of_numbers(s: &[u8]) -> Reply
 fn of_casts(s: &[u8]) -> Reply
     ensures { λ r. ⌜ Unlisted r ⌝ }
 {
-    if fields::begins(s, b"is_finite ") {
+    if protocol::begins(s, b"is_finite ") {
         return is_finite(s, 9);
     }
-    if fields::begins(s, b"as_i64 ") {
+    if protocol::begins(s, b"as_i64 ") {
         return as_i64(s, 6);
     }
-    if fields::begins(s, b"as_usize ") {
+    if protocol::begins(s, b"as_usize ") {
         return as_usize(s, 8);
     }
-    if fields::begins(s, b"i64_as_f64 ") {
+    if protocol::begins(s, b"i64_as_f64 ") {
         return i64_as_f64(s, 10);
     }
     Reply::Bad
@@ -57,7 +56,7 @@ fn sqrt(s: &[u8], at: usize) -> Reply
     ensures { λ r. ⌜ Unlisted r ⌝ }
 {
     let mut v = [0.0f64; 1];
-    if !fields::read_rest(s, at, &mut v) {
+    if !protocol_lists::read_rest(s, at, &mut v) {
         return Reply::Bad;
     }
     Reply::Fraction(root::sqrt(v[0]))
@@ -67,7 +66,7 @@ fn abs(s: &[u8], at: usize) -> Reply
     ensures { λ r. ⌜ Unlisted r ⌝ }
 {
     let mut v = [0.0f64; 1];
-    if !fields::read_rest(s, at, &mut v) {
+    if !protocol_lists::read_rest(s, at, &mut v) {
         return Reply::Bad;
     }
     Reply::Fraction(number::abs(v[0]))
@@ -77,7 +76,7 @@ fn is_finite(s: &[u8], at: usize) -> Reply
     ensures { λ r. ⌜ Unlisted r ⌝ }
 {
     let mut v = [0.0f64; 1];
-    if !fields::read_rest(s, at, &mut v) {
+    if !protocol_lists::read_rest(s, at, &mut v) {
         return Reply::Bad;
     }
     if number::is_finite(v[0]) {
@@ -90,7 +89,7 @@ fn as_i64(s: &[u8], at: usize) -> Reply
     ensures { λ r. ⌜ Unlisted r ⌝ }
 {
     let mut v = [0.0f64; 1];
-    if !fields::read_rest(s, at, &mut v) {
+    if !protocol_lists::read_rest(s, at, &mut v) {
         return Reply::Bad;
     }
     Reply::Instant(number::as_i64(v[0]))
@@ -100,7 +99,7 @@ fn as_usize(s: &[u8], at: usize) -> Reply
     ensures { λ r. ⌜ Unlisted r ⌝ }
 {
     let mut v = [0.0f64; 1];
-    if !fields::read_rest(s, at, &mut v) {
+    if !protocol_lists::read_rest(s, at, &mut v) {
         return Reply::Bad;
     }
     Reply::Natural(number::as_usize(v[0]) as u64)
@@ -109,7 +108,7 @@ fn as_usize(s: &[u8], at: usize) -> Reply
 fn i64_as_f64(s: &[u8], at: usize) -> Reply
     ensures { λ r. ⌜ Unlisted r ⌝ }
 {
-    let Instant::Is(n, k) = fields::read_next_instant(s, at) else {
+    let Instant::Is(n, k) = protocol::read_next_instant(s, at) else {
         return Reply::Bad;
     };
     if k != s.len() {
@@ -122,7 +121,7 @@ fn larger(s: &[u8], at: usize) -> Reply
     ensures { λ r. ⌜ Unlisted r ⌝ }
 {
     let mut v = [0.0f64; 2];
-    if !fields::read_rest(s, at, &mut v) {
+    if !protocol_lists::read_rest(s, at, &mut v) {
         return Reply::Bad;
     }
     Reply::Fraction(number::larger(v[0], v[1]))
@@ -131,10 +130,10 @@ fn larger(s: &[u8], at: usize) -> Reply
 fn powi(s: &[u8], at: usize) -> Reply
     ensures { λ r. ⌜ Unlisted r ⌝ }
 {
-    let Fraction::Is(x, k) = fields::read_next_fraction(s, at) else {
+    let Fraction::Is(x, k) = protocol::read_next_fraction(s, at) else {
         return Reply::Bad;
     };
-    let Number::Is(n, e) = fields::read_next_natural(s, k, 16) else {
+    let Number::Is(n, e) = protocol::read_next_natural(s, k, 16) else {
         return Reply::Bad;
     };
     if e != s.len() {

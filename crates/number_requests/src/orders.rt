@@ -5,9 +5,8 @@ ghost use lib.ListN.{length};
 use moments::Centred;
 use moments::Params;
 use moments::Remade;
-use protocol::fields;
-use protocol::fields::Fraction;
-use protocol::fields::List;
+use protocol::Fraction;
+use protocol_lists::List;
 use replies::Reply;
 use text::Number;
 
@@ -15,13 +14,13 @@ use text::Number;
 pub fn answer(s: &[u8], xs: &mut [f64]) -> Reply
     ensures { λ r. ⌜ ListedIn (length (now (xs .entry))) r ⌝ }
 {
-    if fields::begins(s, b"get_moments ") {
+    if protocol::begins(s, b"get_moments ") {
         return get_moments(s, 11);
     }
-    if fields::begins(s, b"centered_moment ") {
+    if protocol::begins(s, b"centered_moment ") {
         return centered_moment(s, 15);
     }
-    if fields::begins(s, b"raw_moment ") {
+    if protocol::begins(s, b"raw_moment ") {
         return raw_moment(s, 10, xs);
     }
     Reply::Bad
@@ -31,7 +30,7 @@ fn get_moments(s: &[u8], at: usize) -> Reply
     ensures { λ r. ⌜ Unlisted r ⌝ }
 {
     let mut v = [0.0f64; 5];
-    if !fields::read_rest(s, at, &mut v) {
+    if !protocol_lists::read_rest(s, at, &mut v) {
         return Reply::Bad;
     }
     Reply::Moments(moments::get_moments(Params {
@@ -47,7 +46,7 @@ fn get_moments(s: &[u8], at: usize) -> Reply
 fn centred_reply(m: &[f64], n: usize, order: usize) -> Reply
     ensures { λ r. ⌜ Unlisted r ⌝ }
 {
-    let k = fields::least(n, m.len());
+    let k = protocol::least(n, m.len());
     let r = moments::centered_moment(&m[..k], order);
     match r {
         Centred::Refused(number) => Reply::Refused(number),
@@ -58,11 +57,11 @@ fn centred_reply(m: &[f64], n: usize, order: usize) -> Reply
 fn centered_moment(s: &[u8], at: usize) -> Reply
     ensures { λ r. ⌜ Unlisted r ⌝ }
 {
-    let Number::Is(order, a) = fields::read_next_natural(s, at, u64::MAX) else {
+    let Number::Is(order, a) = protocol::read_next_natural(s, at, u64::MAX) else {
         return Reply::Bad;
     };
     let mut m = [0.0f64; 17];
-    let List::Is(n, e) = fields::read_next_list(s, a, &mut m) else {
+    let List::Is(n, e) = protocol_lists::read_next_list(s, a, &mut m) else {
         return Reply::Bad;
     };
     if e != s.len() {
@@ -74,8 +73,8 @@ fn centered_moment(s: &[u8], at: usize) -> Reply
 fn raw_reply(c: &[f64], n: usize, mean: f64, room: usize, xs: &mut [f64]) -> Reply
     ensures { λ r. ⌜ ListedIn (length (now (xs .entry))) r ⌝ }
 {
-    let k = fields::least(n, c.len());
-    let places = fields::least(room, xs.len());
+    let k = protocol::least(n, c.len());
+    let places = protocol::least(room, xs.len());
     let r = moments::raw_moment(&c[..k], mean, &mut xs[..places]);
     match r {
         Remade::Unwritten(number) => Reply::Refused(number),
@@ -86,14 +85,14 @@ fn raw_reply(c: &[f64], n: usize, mean: f64, room: usize, xs: &mut [f64]) -> Rep
 fn raw_moment(s: &[u8], at: usize, xs: &mut [f64]) -> Reply
     ensures { λ r. ⌜ ListedIn (length (now (xs .entry))) r ⌝ }
 {
-    let Number::Is(room, a) = fields::read_next_natural(s, at, u64::MAX) else {
+    let Number::Is(room, a) = protocol::read_next_natural(s, at, u64::MAX) else {
         return Reply::Bad;
     };
-    let Fraction::Is(mean, b) = fields::read_next_fraction(s, a) else {
+    let Fraction::Is(mean, b) = protocol::read_next_fraction(s, a) else {
         return Reply::Bad;
     };
     let mut c = [0.0f64; 17];
-    let List::Is(n, e) = fields::read_next_list(s, b, &mut c) else {
+    let List::Is(n, e) = protocol_lists::read_next_list(s, b, &mut c) else {
         return Reply::Bad;
     };
     if e != s.len() {

@@ -2,19 +2,18 @@
 // name.
 ghost use Rattle.replies.specs.Replies.{Unlisted};
 use prices::Limit;
-use protocol::fields;
 use replies::Reply;
 
 pub fn answer(s: &[u8]) -> Reply
     ensures { λ r. ⌜ Unlisted r ⌝ }
 {
-    if fields::begins(s, b"w_sigmoid ") {
+    if protocol::begins(s, b"w_sigmoid ") {
         return w_sigmoid(s, 9);
     }
-    if fields::begins(s, b"inv_price_sigmoid ") {
+    if protocol::begins(s, b"inv_price_sigmoid ") {
         return inv_price_sigmoid(s, 17);
     }
-    if fields::begins(s, b"limit_price_sigmoid ") {
+    if protocol::begins(s, b"limit_price_sigmoid ") {
         return limit_price_sigmoid(s, 19);
     }
     Reply::Bad
@@ -24,7 +23,7 @@ fn w_sigmoid(s: &[u8], at: usize) -> Reply
     ensures { λ r. ⌜ Unlisted r ⌝ }
 {
     let mut v = [0.0f64; 2];
-    if !fields::read_rest(s, at, &mut v) {
+    if !protocol_lists::read_rest(s, at, &mut v) {
         return Reply::Bad;
     }
     Reply::Fraction(prices::get_w_sigmoid(v[0], v[1]))
@@ -34,7 +33,7 @@ fn inv_price_sigmoid(s: &[u8], at: usize) -> Reply
     ensures { λ r. ⌜ Unlisted r ⌝ }
 {
     let mut v = [0.0f64; 3];
-    if !fields::read_rest(s, at, &mut v) {
+    if !protocol_lists::read_rest(s, at, &mut v) {
         return Reply::Bad;
     }
     Reply::Fraction(prices::inv_price_sigmoid(v[0], v[1], v[2]))
@@ -53,7 +52,7 @@ fn limit_price_sigmoid(s: &[u8], at: usize) -> Reply
     ensures { λ r. ⌜ Unlisted r ⌝ }
 {
     let mut v = [0.0f64; 5];
-    if !fields::read_rest(s, at, &mut v) {
+    if !protocol_lists::read_rest(s, at, &mut v) {
         return Reply::Bad;
     }
     limit_reply(prices::limit_price_sigmoid(v[0], v[1], v[2], v[3], v[4]))

@@ -1,3 +1,4 @@
 -- Laws that belong to no one function, on plain values.
+pub mod Asking
 pub mod Placing
 pub mod Rooms

@@ -1,3 +1,4 @@
--- What the contracts of the replies say.
+-- What the contracts of the replies say, and how the reply to a line is defined.
 pub mod Places
 pub mod Replies
+pub mod Requests

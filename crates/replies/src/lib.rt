@@ -18,7 +18,7 @@ pub use forms::is_bad;
 pub fn put_bad(out: &mut [u8], at: usize) -> usize
     ensures { λ place. ⌜ Placed (now (out .entry)) (now (out .exit)) at place (bytes "bad\n") ⌝ }
 {
-    text::put(out, at, b"bad\n")
+    text_write::put(out, at, b"bad\n")
 }
 
 // Puts an answer with its newline, and answers the place after it. The starts of rows are read from

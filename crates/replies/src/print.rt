@@ -6,7 +6,6 @@ use crate::forms::Report;
 use crate::forms::Search;
 use moments::Five;
 use moments::Params;
-use protocol::fields;
 
 // Puts an answer with its newline, and answers the place after it.
 pub(crate) fn put_reply(out: &mut [u8], at: usize, r: Reply, xs: &[f64]) -> usize
@@ -131,7 +130,7 @@ fn put_listed(out: &mut [u8], at: usize, count: usize, n: usize, xs: &[f64]) -> 
     ensures { λ place. ⌜ After (length (now (out .entry))) at place ⌝ }
 {
     let mut k = put_natural(out, at, count as u64);
-    let most = fields::least(n, xs.len());
+    let most = protocol::least(n, xs.len());
     let mut i = 0;
     while i < most {
         k = put_fraction(out, k, xs[i]);
@@ -144,26 +143,26 @@ pub(crate) fn put_fraction(out: &mut [u8], at: usize, x: f64) -> usize
     ensures { λ place. ⌜ After (length (now (out .entry))) at place ⌝ }
 {
     let k = put_text(out, at, b" ");
-    text::put_hex(out, k, text::bits_of(x))
+    text_write::put_hex(out, k, text_bits::bits_of(x))
 }
 
 pub(crate) fn put_natural(out: &mut [u8], at: usize, n: u64) -> usize
     ensures { λ place. ⌜ After (length (now (out .entry))) at place ⌝ }
 {
     let k = put_text(out, at, b" ");
-    text::put_decimal(out, k, n)
+    text_write::put_decimal(out, k, n)
 }
 
 pub(crate) fn put_instant(out: &mut [u8], at: usize, i: i64) -> usize
     ensures { λ place. ⌜ After (length (now (out .entry))) at place ⌝ }
 {
     let k = put_text(out, at, b" ");
-    text::put_instant(out, k, i)
+    text_write::put_instant(out, k, i)
 }
 
-// Of the contract of text::put no more is kept than where the place after may stand.
+// Of the contract of text_write::put no more is kept than where the place after may stand.
 pub(crate) fn put_text(out: &mut [u8], at: usize, w: &[u8]) -> usize
     ensures { λ place. ⌜ After (length (now (out .entry))) at place ⌝ }
 {
-    text::put(out, at, w)
+    text_write::put(out, at, w)
 }

@@ -3,7 +3,6 @@ ghost use lib.ListN.{length};
 ghost use Rattle.replies.specs.Places.{After};
 use crate::forms::SpanRows;
 use crate::print;
-use protocol::fields;
 use text::Instant;
 use text::Number;
 
@@ -19,14 +18,14 @@ pub(crate) fn put_spanned(out: &mut [u8], at: usize, r: SpanRows, s: &[u8], xs: 
 fn put_rows(out: &mut [u8], at: usize, r: SpanRows, s: &[u8], xs: &[f64]) -> usize
     ensures { λ place. ⌜ After (length (now (out .entry))) at place ⌝ }
 {
-    let Number::Is(n, a) = fields::read_next_natural(s, r.starts, u64::MAX) else {
+    let Number::Is(n, a) = protocol::read_next_natural(s, r.starts, u64::MAX) else {
         return at;
     };
     let mut to = at;
     let mut k = a;
     let mut i: u64 = 0;
     while i < n {
-        let Instant::Is(t, e) = fields::read_next_instant(s, k) else {
+        let Instant::Is(t, e) = protocol::read_next_instant(s, k) else {
             return to;
         };
         to = put_row(out, to, t, r.columns, i as usize, xs);

@@ -26,25 +26,25 @@ pub enum Form {
 pub fn read_span(s: &[u8], at: usize) -> Form
     ensures { λ r. ⌜ spanForm (drop at (now (s .entry))) ≡ formIs (now (s .entry)) r ⌝ }
 {
-    let Next::At(a) = text::read_word(s, at, b"(span (from ") else {
+    let Next::At(a) = text_read::read_word(s, at, b"(span (from ") else {
         return Form::No;
     };
-    let Instant::Is(from, b) = text::read_instant(s, a) else {
+    let Instant::Is(from, b) = text_read::read_instant(s, a) else {
         return Form::No;
     };
-    let Next::At(c) = text::read_word(s, b, b") (to ") else {
+    let Next::At(c) = text_read::read_word(s, b, b") (to ") else {
         return Form::No;
     };
-    let Instant::Is(to, d) = text::read_instant(s, c) else {
+    let Instant::Is(to, d) = text_read::read_instant(s, c) else {
         return Form::No;
     };
-    let Next::At(e) = text::read_word(s, d, b") (side ") else {
+    let Next::At(e) = text_read::read_word(s, d, b") (side ") else {
         return Form::No;
     };
-    let Number::Is(side, f) = text::read_hex(s, e) else {
+    let Number::Is(side, f) = text_read::read_hex(s, e) else {
         return Form::No;
     };
-    let Next::At(g) = text::read_word(s, f, b"))") else {
+    let Next::At(g) = text_read::read_word(s, f, b"))") else {
         return Form::No;
     };
     Form::Is(Span { from, to, side }, g)
@@ -57,7 +57,7 @@ pub fn read_line(s: &[u8], at: usize) -> Form
     let Form::Is(span, a) = read_span(s, at) else {
         return Form::No;
     };
-    let Next::At(b) = text::read_word(s, a, b"\n") else {
+    let Next::At(b) = text_read::read_word(s, a, b"\n") else {
         return Form::No;
     };
     Form::Is(span, b)
@@ -68,22 +68,22 @@ fn make_row(row: &mut [u8], start: i64, long: u64, short: u64, size: u64) -> usi
     requires { ⌜ 128 ≤ length (now row) ⌝ }
     ensures { λ r. ⌜ Fronts (now (row .exit)) r (rowLine start long short size) ⌝ }
 {
-    let a = text::put(row, 0, b"(row (at ");
-    let b = text::put_instant(row, a, start);
-    let c = text::put(row, b, b") (long ");
-    let d = text::put_decimal(row, c, long);
-    let e = text::put(row, d, b") (short ");
-    let f = text::put_decimal(row, e, short);
-    let g = text::put(row, f, b") (size ");
-    let h = text::put_hex(row, g, size);
-    text::put(row, h, b"))\n")
+    let a = text_write::put(row, 0, b"(row (at ");
+    let b = text_write::put_instant(row, a, start);
+    let c = text_write::put(row, b, b") (long ");
+    let d = text_write::put_decimal(row, c, long);
+    let e = text_write::put(row, d, b") (short ");
+    let f = text_write::put_decimal(row, e, short);
+    let g = text_write::put(row, f, b") (size ");
+    let h = text_write::put_hex(row, g, size);
+    text_write::put(row, h, b"))\n")
 }
 
-// Puts a row with its newline, as text::put does. The size goes as its bits.
+// Puts a row with its newline, as text_write::put does. The size goes as its bits.
 pub fn put_row(out: &mut [u8], at: usize, start: i64, long: u64, short: u64, size: u64) -> usize
     ensures { λ r. ⌜ Placed (now (out .entry)) (now (out .exit)) at r (rowLine start long short size) ⌝ }
 {
     let mut row = [0u8; 128];
     let n = make_row(&mut row, start, long, short, size);
-    text::put(out, at, &row[..n])
+    text_write::put(out, at, &row[..n])
 }

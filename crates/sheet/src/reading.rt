@@ -52,7 +52,7 @@ fn take_spans(s: &[u8], starts: &mut [i64], ends: &mut [i64], sides: &mut [f64])
         let from = a.from;
         let to = a.to;
         let bits = a.side;
-        let side = text::float_of(bits);
+        let side = text_bits::float_of(bits);
         starts[n] = from;
         ends[n] = to;
         sides[n] = side;

@@ -11,20 +11,20 @@ fn put_refusal(out: &mut [u8], number: u64) -> usize
     requires { ⌜ 131072 ≤ length (now out) ⌝ }
     ensures { λ r. ⌜ Fronts (now (out .exit)) r (refusal number) ⌝ }
 {
-    let a = text::put(out, 0, b"(refused ");
-    let b = text::put_decimal(out, a, number);
-    text::put(out, b, b")\n")
+    let a = text_write::put(out, 0, b"(refused ");
+    let b = text_write::put_decimal(out, a, number);
+    text_write::put(out, b, b")\n")
 }
 
 fn put_refusal_at(out: &mut [u8], number: u64, line: usize) -> usize
     requires { ⌜ 131072 ≤ length (now out) ⌝ }
     ensures { λ r. ⌜ Fronts (now (out .exit)) r (refusalAt number line) ⌝ }
 {
-    let a = text::put(out, 0, b"(refused ");
-    let b = text::put_decimal(out, a, number);
-    let c = text::put(out, b, b" ");
-    let d = text::put_decimal(out, c, line as u64);
-    text::put(out, d, b")\n")
+    let a = text_write::put(out, 0, b"(refused ");
+    let b = text_write::put_decimal(out, a, number);
+    let c = text_write::put(out, b, b" ");
+    let d = text_write::put_decimal(out, c, line as u64);
+    text_write::put(out, d, b")\n")
 }
 
 // Puts a sheet's answer at the front of out, which has room for 1,024 rows of 128 bytes.
@@ -56,5 +56,5 @@ pub fn count_sheet(s: &[u8], out: &mut [u8]) -> usize
 {
     let mut room = [0u8; 131072];
     let n = put_answer(s, &mut room);
-    text::put(out, 0, &room[..n])
+    text_write::put(out, 0, &room[..n])
 }

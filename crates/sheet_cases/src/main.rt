@@ -27,7 +27,7 @@ fn same(a: &[u8], b: &[u8]) -> bool {
     if a.len() != b.len() {
         return false;
     }
-    match text::read_word(a, 0, b) {
+    match text_read::read_word(a, 0, b) {
         Next::At(_) => true,
         Next::No => false,
     }

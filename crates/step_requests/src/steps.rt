@@ -1,8 +1,7 @@
 // Requests of one step of the fit. A list longer than 16 is read, and refused by the library.
 ghost use Rattle.replies.specs.Replies.{Unlisted};
-use protocol::fields;
-use protocol::fields::Fraction;
-use protocol::fields::List;
+use protocol::Fraction;
+use protocol_lists::List;
 use replies::Reply;
 use step::Iterate;
 use step::Step;
@@ -10,10 +9,10 @@ use step::Step;
 pub fn answer(s: &[u8]) -> Reply
     ensures { λ r. ⌜ Unlisted r ⌝ }
 {
-    if fields::begins(s, b"iter_4 ") {
+    if protocol::begins(s, b"iter_4 ") {
         return one_step(s, 6, 4);
     }
-    if fields::begins(s, b"iter_5 ") {
+    if protocol::begins(s, b"iter_5 ") {
         return one_step(s, 6, 5);
     }
     Reply::Bad
@@ -27,13 +26,13 @@ enum Asked {
 
 // The rest of a request, its moments into m.
 fn read(s: &[u8], at: usize, m: &mut [f64]) -> Asked {
-    let List::Is(n, a) = fields::read_next_list(s, at, m) else {
+    let List::Is(n, a) = protocol_lists::read_next_list(s, at, m) else {
         return Asked::No;
     };
-    let Fraction::Is(mu_2, b) = fields::read_next_fraction(s, a) else {
+    let Fraction::Is(mu_2, b) = protocol::read_next_fraction(s, a) else {
         return Asked::No;
     };
-    let Fraction::Is(p_1, e) = fields::read_next_fraction(s, b) else {
+    let Fraction::Is(p_1, e) = protocol::read_next_fraction(s, b) else {
         return Asked::No;
     };
     if e != s.len() {
@@ -63,7 +62,7 @@ fn step_reply(t: Step) -> Reply
 // The step that reads so many moments, four or five. n counts the list; 17 of it are enough to be
 // refused.
 fn stepped(m: &[f64], n: usize, reads: u64, mu_2: f64, p_1: f64) -> Iterate {
-    let k = fields::least(n, m.len());
+    let k = protocol::least(n, m.len());
     if reads == 4 {
         return step::iter_4(&m[..k], mu_2, p_1);
     }

@@ -1,9 +1,8 @@
 // The request of a walk. A list longer than 16 is read, and refused by the library.
 ghost use Rattle.replies.specs.Replies.{Unlisted};
-use protocol::fields;
-use protocol::fields::Fraction;
-use protocol::fields::List;
-use protocol::fields::State;
+use protocol::Fraction;
+use protocol_lists::List;
+use protocol_lists::State;
 use replies::Reply;
 use replies::Report;
 use text::Number;
@@ -14,7 +13,7 @@ use walk::Walked;
 pub fn answer(s: &[u8]) -> Reply
     ensures { λ r. ⌜ Unlisted r ⌝ }
 {
-    if fields::begins(s, b"walk ") {
+    if protocol::begins(s, b"walk ") {
         return walk(s, 4);
     }
     Reply::Bad
@@ -27,13 +26,13 @@ enum Start {
 }
 
 fn read_start(s: &[u8], at: usize) -> Start {
-    let Fraction::Is(mu_2, a) = fields::read_next_fraction(s, at) else {
+    let Fraction::Is(mu_2, a) = protocol::read_next_fraction(s, at) else {
         return Start::No;
     };
-    let Fraction::Is(p_1, b) = fields::read_next_fraction(s, a) else {
+    let Fraction::Is(p_1, b) = protocol::read_next_fraction(s, a) else {
         return Start::No;
     };
-    let Fraction::Is(epsilon, c) = fields::read_next_fraction(s, b) else {
+    let Fraction::Is(epsilon, c) = protocol::read_next_fraction(s, b) else {
         return Start::No;
     };
     Start::At(mu_2, p_1, epsilon, c)
@@ -71,10 +70,10 @@ fn walk_from(s: &[u8], at: usize, variant: u64, m: [f64; 16], n: usize) -> Reply
     let Start::At(mu_2, p_1, epsilon, a) = read_start(s, at) else {
         return Reply::Bad;
     };
-    let Number::Is(max_iter, b) = fields::read_next_natural(s, a, u64::MAX) else {
+    let Number::Is(max_iter, b) = protocol::read_next_natural(s, a, u64::MAX) else {
         return Reply::Bad;
     };
-    let State::Is(parameters, error, new_moments, e) = fields::read_next_state(s, b) else {
+    let State::Is(parameters, error, new_moments, e) = protocol_lists::read_next_state(s, b) else {
         return Reply::Bad;
     };
     if e != s.len() {
@@ -101,11 +100,11 @@ fn walk_from(s: &[u8], at: usize, variant: u64, m: [f64; 16], n: usize) -> Reply
 fn walk(s: &[u8], at: usize) -> Reply
     ensures { λ r. ⌜ Unlisted r ⌝ }
 {
-    let Number::Is(variant, a) = fields::read_next_natural(s, at, u64::MAX) else {
+    let Number::Is(variant, a) = protocol::read_next_natural(s, at, u64::MAX) else {
         return Reply::Bad;
     };
     let mut m = [0.0f64; 16];
-    let List::Is(n, b) = fields::read_next_list(s, a, &mut m) else {
+    let List::Is(n, b) = protocol_lists::read_next_list(s, a, &mut m) else {
         return Reply::Bad;
     };
     walk_from(s, b, variant, m, n)

@@ -4,9 +4,9 @@ use mathlib.Core.List.{List}
 use lib.IntN.{ℤ}
 use lib.ListN.{drop}
 use Rattle.text.specs.Decode.{Got, got, bad}
-use Rattle.text.specs.declared.read.Next as next
-use Rattle.text.specs.declared.read.Number as number
-use Rattle.text.specs.declared.read.Instant as instant
+use Rattle.text.specs.declared.Next as next
+use Rattle.text.specs.declared.Number as number
+use Rattle.text.specs.declared.Instant as instant
 
 abbrev pub nextIs : List ℕ → next.Next → Got (Unit {0})
 nextIs s (next.the-variants.At k) = got tt (drop k s)

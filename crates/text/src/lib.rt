@@ -1,19 +1,20 @@
-// Numbers and words as text: read from a slice of bytes, and put into a lent buffer, for every
-// input. Floats go as their bits.
-pub mod float; // float.rt: a float and its bits
-pub mod read; // read.rt: words and numbers, from bytes
-pub mod write; // write.rt: texts, into a buffer
+// Words and numbers as text: what readers answer, and in specs/ and proofs/ the definitions and their
+// laws. The functions are the crates text_read, text_write and text_bits.
 
-pub use float::bits_of;
-pub use float::float_of;
-pub use read::Instant;
-pub use read::Next;
-pub use read::Number;
-pub use read::read_hex;
-pub use read::read_instant;
-pub use read::read_natural;
-pub use read::read_word;
-pub use write::put;
-pub use write::put_decimal;
-pub use write::put_hex;
-pub use write::put_instant;
+// The place after a word.
+pub enum Next {
+    At(usize),
+    No,
+}
+
+// A number, and the place after it.
+pub enum Number {
+    Is(u64, usize),
+    No,
+}
+
+// An instant, and the place after it.
+pub enum Instant {
+    Is(i64, usize),
+    No,
+}

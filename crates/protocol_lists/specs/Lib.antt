@@ -1,0 +1,2 @@
+-- What the contracts of the protocol say.
+pub mod Lists
