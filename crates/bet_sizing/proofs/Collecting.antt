@@ -16,7 +16,8 @@ use mir.Syntax.{w64}
 use mir.Val.{toZ, ofZ, SFits}
 use mir.ValLaws.{toZ-ofZ}
 use borrow.Author.Count.{below-more}
-use Rattle.bet_sizing.specs.Counting.{Collectable, Collected, begun, ended, keyOf}
+use Rattle.float.specs.Keys.{keyOf}
+use Rattle.bet_sizing.specs.Counting.{Collectable, Collected, begun, ended}
 use Rattle.bet_sizing.specs.Counts.{indicator, onSide}
 use Rattle.bet_sizing.specs.Sorting.{rank}
 use Rattle.bet_sizing.proofs.Ranks.{rank-set, indicator-le}

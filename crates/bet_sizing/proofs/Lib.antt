@@ -1,7 +1,6 @@
 pub mod Collecting
 pub mod Filling
 pub mod Halves
-pub mod Keys
 pub mod Merging
 pub mod Netting
 pub mod Ranks

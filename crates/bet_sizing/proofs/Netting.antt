@@ -13,10 +13,11 @@ use lib.Ieee.{Float}
 use mir.Syntax.{w64}
 use mir.Val.{SFits}
 use borrow.Author.Tests.{ltb-true, ltb-false, leb-true, leb-false}
-use Rattle.bet_sizing.specs.Counting.{Collected, Counted, Nettable, Netted, begun, ended, keyOf, net}
+use Rattle.float.specs.Keys.{keyOf}
+use Rattle.float.proofs.Keys.{key-le, key-lt}
+use Rattle.bet_sizing.specs.Counting.{Collected, Counted, Nettable, Netted, begun, ended, net}
 use Rattle.bet_sizing.specs.Counts.{concurrent, indicator, maximum, onSide, whole}
 use Rattle.bet_sizing.specs.Sorting.{Sorted, Sorts}
-use Rattle.bet_sizing.proofs.Keys.{key-le, key-lt}
 use Rattle.bet_sizing.proofs.Halves.{front-of}
 
 -- ---- one span from p to q, at u, by the tests' answers

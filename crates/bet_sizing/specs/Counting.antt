@@ -5,18 +5,14 @@ use mathlib.Core.Bool.{Bool, true, false, _&&_}
 use mathlib.Core.List.{List, [], _∷_, _++_, map}
 use lib.Dec.{leb}
 use lib.ListN.{length, take, drop, getD}
-use lib.IntN.{ℤ, pos, negsuc}
+use lib.IntN.{ℤ, pos}
 use lib.Signed.{ltZ}
 use lib.Ieee.{Float, nan}
 use mir.Syntax.{w64}
 use mir.Val.{SFits}
+use Rattle.float.specs.Keys.{keyOf}
 use Rattle.bet_sizing.specs.Counts.{indicator, onSide, concurrent, whole, concurrentCounts, maximum, maxConcurrent}
 use Rattle.bet_sizing.specs.Sorting.{rank, Sorted}
-
--- an instant as a number, in the same order: 2 ^ 63 more
-abbrev pub keyOf : ℤ → ℕ
-keyOf (pos n) = n + 9223372036854775808
-keyOf (negsuc n) = 9223372036854775807 - n
 
 -- of the spans of a side that end after they start, all others being never live, how many have a start, or an end, up to the key x
 unfoldable pub begun : Bool → ℕ → List ℤ → List ℤ → List Float → ℕ

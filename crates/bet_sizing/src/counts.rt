@@ -4,7 +4,7 @@ ghost use mathlib.Core.Path.{_≡_};
 ghost use mathlib.Core.Bool.{_&&_};
 ghost use Prim.Native.Nat.{_-_, max};
 ghost use lib.Signed.{ltZ};
-ghost use Rattle.bet_sizing.specs.Counting.{Accepted, AcceptedIn, Collectable, Collected, Counted, Nettable, Netted, keyOf};
+ghost use Rattle.bet_sizing.specs.Counting.{Accepted, AcceptedIn, Collectable, Collected, Counted, Nettable, Netted};
 ghost use Rattle.bet_sizing.specs.Counts.{indicator, onSide};
 ghost use Rattle.bet_sizing.specs.Refusals.{ConcurrentSides};
 use crate::Outcome;
@@ -38,16 +38,6 @@ fn saturating_sub(a: usize, b: usize) -> usize
     a - b
 }
 
-// An instant as a number in the same order: 2^63 more.
-fn key(t: i64) -> u64
-    ensures { λ r. ⌜ r ≡ keyOf t ⌝ }
-{
-    if t < 0 {
-        return (t - (-9223372036854775808)) as u64;
-    }
-    t as u64 + 9223372036854775808
-}
-
 // 1 if a span is of the side that is asked for and ends after it starts, else 0.
 fn ever_live(long: bool, start: i64, end: i64, side: f64) -> usize
     ensures { λ r. ⌜ r ≡ indicator (ltZ start end && onSide long side) ⌝ }
@@ -79,8 +69,8 @@ fn collect(
     while i < starts.len() {
         let a = starts[i];
         let b = ends[i];
-        s[m] = key(a);
-        e[m] = key(b);
+        s[m] = number::key(a);
+        e[m] = number::key(b);
         m += ever_live(long, a, b, sides[i]);
         i += 1;
     }
@@ -96,7 +86,7 @@ fn net_counts(starts: &[i64], s: &[u64], e: &[u64], out: &mut [f64]) -> u32
     let mut top: u32 = 0;
     let mut i: usize = 0;
     while i < starts.len() {
-        let k = key(starts[i]);
+        let k = number::key(starts[i]);
         let c = saturating_sub(sorting::rank_of(s, k), sorting::rank_of(e, k)) as u32;
         out[i] = c as f64;
         top = larger(top, c);

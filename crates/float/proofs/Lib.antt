@@ -4,6 +4,8 @@ pub mod Comparing
 pub mod Exponents
 pub mod Fits
 pub mod Floor
+pub mod KeyBits
+pub mod Keys
 pub mod Monotone
 pub mod Order
 pub mod Patterns

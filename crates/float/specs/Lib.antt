@@ -1,4 +1,5 @@
 pub mod Constants
+pub mod Keys
 pub mod Known
 pub mod Leaves
 pub mod Power

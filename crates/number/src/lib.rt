@@ -1,7 +1,8 @@
 // The number leaves: powers, casts and comparisons of f64, each as the Rust has it, for every
-// input. Each operation rounds once; NaNs are one class.
+// input. Each operation rounds once; NaNs are one class. And a whole number as a key.
 ghost use mathlib.Core.Path.{_≡_};
 ghost use lib.Ieee.{binary64, ofInt, toSigned, toUnsigned};
+ghost use Rattle.float.specs.Keys.{keyOf};
 ghost use Rattle.float.specs.Leaves.{absOf, finite, largerOf};
 
 pub mod power; // power.rt: powi
@@ -75,4 +76,14 @@ pub fn i64_as_f64(n: i64) -> f64
     ensures { λ r. ⌜ r ≡ ofInt binary64 n ⌝ }
 {
     std::num::nearest_i64_to_f64(n)
+}
+
+// An i64 as a u64 in the same order: 2^63 more. A larger key less a smaller one never overflows.
+pub fn key(n: i64) -> u64
+    ensures { λ r. ⌜ r ≡ keyOf n ⌝ }
+{
+    if n < 0 {
+        return (n - (-9223372036854775808)) as u64;
+    }
+    n as u64 + 9223372036854775808
 }

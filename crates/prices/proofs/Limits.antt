@@ -10,10 +10,12 @@ use mir.Syntax.{w64}
 use mir.Val.{toZ, ofZ, SFits}
 use mir.ValLaws.{toZ-ofZ}
 use borrow.Author.Tests.{le-ltb, lt-ltb}
-use Rattle.prices.specs.Prices.{_⊘_, keyOf, signOf, lotNumber, lotPrice, summed, limitAnswer, limitFrom, limitPriceSigmoid}
+use Rattle.float.specs.Keys.{keyOf}
+use Rattle.float.proofs.Keys.{keys-differ}
+use Rattle.prices.specs.Prices.{_⊘_, signOf, lotNumber, lotPrice, summed, limitAnswer, limitFrom, limitPriceSigmoid}
 use Rattle.prices.specs.declared.Limit.{Limit}
 use Rattle.prices.specs.declared.Limit.the-variants.{Refused, Price}
-use Rattle.prices.proofs.Lots.{keys-differ, lots-fit}
+use Rattle.prices.proofs.Lots.{lots-fit}
 
 -- a few lots are a number that f64 counts
 pub few : (n : ℕ) → n ≤ 1000000 → T (inFloat binary64 (pos n))

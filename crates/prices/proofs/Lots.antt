@@ -1,29 +1,21 @@
--- Whole positions, their keys, the lots between them, and the sum over the lots. Assumes nothing.
+-- Whole positions, the lots between them, and the sum over the lots. Assumes nothing.
 use mathlib.Core.Path.{_≡_, refl, sym, ap, _∙_, subst}
 use mathlib.Core.Bool.{Bool, true, false}
 use Prim.Native.Nat.{ℕ, zero, suc, _+_, _-_, _*_, _≤_, _<_}
 use native.Mathlib.Omega.{arith}
 use native.Mathlib.Numerals.{add-one}
-use lib.Dec.{T, ltb}
-use lib.IntN.{ℤ, pos, negsuc, negℤ, natAbs, subℕ, _+ℤ_, _-ℤ_, _*ℤ_, sucℤ-*ℤ, zero-*ℤ, *ℤ-zero, *ℤ-comm, +ℤ-assoc, +ℤ-idr}
-use lib.Signed.{ltZ, nonNeg}
+use lib.Dec.{ltb}
+use lib.IntN.{ℤ, pos, negsuc, negℤ, natAbs, subℕ, _+ℤ_, _*ℤ_, sucℤ-*ℤ, zero-*ℤ, *ℤ-zero, *ℤ-comm, +ℤ-assoc, +ℤ-idr}
 use mir.Syntax.{w64}
-use mir.Val.{toZ, ofZ, SFits, Fits}
+use mir.Val.{toZ, ofZ, SFits}
 use mir.ValLaws.{toZ-ofZ}
-use borrow.Author.Tests.{ltb-true, ltb-false, le-ltb, lt-ltb}
-use Rattle.prices.specs.Prices.{_⊕_, _⊘_, keyOf, signOf, lotNumber, lotPrice, summed, invPriceSigmoid}
+use borrow.Author.Tests.{ltb-true, ltb-false, le-ltb}
+use Rattle.float.specs.Keys.{keyOf}
+use Rattle.float.proofs.Keys.{key-below, sub-above, sub-below}
+use Rattle.prices.specs.Prices.{_⊕_, _⊘_, signOf, lotNumber, lotPrice, summed, invPriceSigmoid}
 use lib.Ieee.{Float, binary64, ofInt}
 
-never : {X : Type 0} → true ≡ false → X
-never e = absurd (subst T e tt)
-
 -- ---- the difference of two numbers
-pub sub-above : (a b : ℕ) → b < a → subℕ a b ≡ pos (suc (a - suc b))
-sub-above a b h = rw (le-ltb a b (omega arith)) (ap pos (omega arith))
-
-pub sub-below : (a b : ℕ) → a < b → subℕ a b ≡ negsuc (b - suc a)
-sub-below a b h = rw (lt-ltb a b h)
-
 pub sub-same : (a b : ℕ) → a ≡ b → subℕ a b ≡ pos 0
 sub-same a b h = rw (le-ltb a b (omega arith)) (ap pos (omega arith))
 
@@ -41,100 +33,6 @@ far-below a b h = by (ltb a b) refl where
       let l : b ≤ a = ltb-false a b e in
       let d : b - a ≡ 0 = omega arith in
       d ∙ sym (ap natAbs (sub-same a b (omega arith)))
-
--- ---- keys
--- a - b and n - m are one number
-same-difference : (a b n m : ℕ) → a + m ≡ n + b → subℕ a b ≡ subℕ n m
-same-difference a b n m e = by (ltb a b) refl where
-  by : (t : Bool) → ltb a b ≡ t → subℕ a b ≡ subℕ n m
-  by true h =
-      let l : a < b = ltb-true a b h in
-      let g : b - suc a ≡ m - suc n = omega arith in
-      sub-below a b l ∙ ap negsuc g ∙ sym (sub-below n m (omega arith))
-  by false h =
-      let l : b ≤ a = ltb-false a b h in
-      let g : a - b ≡ n - m = omega arith in
-      let r : subℕ n m ≡ pos (n - m) = rw (le-ltb n m (omega arith)) in
-      rw (le-ltb a b l) (ap pos g ∙ sym r)
-
--- the difference of two positions is that of their keys
-pub keys-differ : (c t : ℤ) → SFits w64 c → SFits w64 t → t -ℤ c ≡ subℕ (keyOf t) (keyOf c)
-keys-differ (pos zero) (pos b) f g =
-    let h : pos (b + 0) ≡ subℕ b 0 = rw (le-ltb b 0 (omega arith)) (ap pos (omega arith)) in
-    h ∙ same-difference b 0 (keyOf (pos b)) (keyOf (pos zero)) (omega arith)
-keys-differ (pos (suc a)) (pos b) f g = same-difference b (suc a) (keyOf (pos b)) (keyOf (pos (suc a))) (omega arith)
-keys-differ (pos zero) (negsuc b) f g = same-difference 0 (suc b) (keyOf (negsuc b)) (keyOf (pos zero)) (omega (arith, g .sfits))
-keys-differ (pos (suc a)) (negsuc b) f g =
-    let h : suc (b + a) ≡ keyOf (pos (suc a)) - suc (keyOf (negsuc b)) = omega (arith, g .sfits) in
-    ap negsuc h ∙ sym (sub-below (keyOf (negsuc b)) (keyOf (pos (suc a))) (omega (arith, g .sfits)))
-keys-differ (negsuc a) (pos b) f g =
-    let h : b + suc a ≡ suc (keyOf (pos b) - suc (keyOf (negsuc a))) = omega (arith, f .sfits) in
-    ap pos h ∙ sym (sub-above (keyOf (pos b)) (keyOf (negsuc a)) (omega (arith, f .sfits)))
-keys-differ (negsuc a) (negsuc b) f g = same-difference (suc a) (suc b) (keyOf (negsuc b)) (keyOf (negsuc a)) (omega (arith, f .sfits, g .sfits))
-
-key-below : (t : ℤ) → SFits w64 t → keyOf t < 18446744073709551616
-key-below (pos n) f = omega (arith, f .sfits)
-key-below (negsuc n) f = omega arith
-
--- ---- the key as the code makes it: below zero
-less : (t : ℤ) → SFits w64 t → ltZ t (pos 0) ≡ true → t -ℤ negsuc 9223372036854775807 ≡ pos (keyOf t)
-less (pos n) f e = absurd (omega (arith, ltb-true n 0 e))
-less (negsuc n) f e = rw (le-ltb 9223372036854775808 (suc n) (omega (arith, f .sfits))) (ap pos (omega (arith, f .sfits)))
-
-small : (t : ℤ) → ltZ t (pos 0) ≡ true → keyOf t < 9223372036854775808
-small (pos n) e = absurd (omega (arith, ltb-true n 0 e))
-small (negsuc n) e = omega arith
-
-module _ (t : ℤ) (f : SFits w64 t) (e : ltZ (toZ w64 (ofZ w64 t)) (pos 0) ≡ true) where
-  negative : ltZ t (pos 0) ≡ true
-  negative = ap (λ (z : ℤ). ltZ z (pos 0)) (sym (toZ-ofZ w64 t f)) ∙ e
-
-  raised : toZ w64 (ofZ w64 t) -ℤ negsuc 9223372036854775807 ≡ pos (keyOf t)
-  raised = ap (λ (z : ℤ). z -ℤ negsuc 9223372036854775807) (toZ-ofZ w64 t f) ∙ less t f negative
-
-  fits : SFits w64 (pos (keyOf t))
-  fits = record { sfits = small t negative }
-
-  pub raised-fits : SFits w64 (toZ w64 (ofZ w64 t) -ℤ negsuc 9223372036854775807)
-  raised-fits = subst (SFits w64) (sym raised) fits
-
-  back : toZ w64 (ofZ w64 (toZ w64 (ofZ w64 t) -ℤ negsuc 9223372036854775807)) ≡ pos (keyOf t)
-  back = ap (λ (z : ℤ). toZ w64 (ofZ w64 z)) raised ∙ toZ-ofZ w64 (pos (keyOf t)) fits
-
-  pub raised-cast : T (nonNeg (toZ w64 (ofZ w64 (toZ w64 (ofZ w64 t) -ℤ negsuc 9223372036854775807)))) × Fits w64 (natAbs (toZ w64 (ofZ w64 (toZ w64 (ofZ w64 t) -ℤ negsuc 9223372036854775807))))
-  raised-cast = subst (λ (z : ℤ). T (nonNeg z) × Fits w64 (natAbs z)) (sym back) (tt, omega (arith, small t negative))
-
-  pub raised-key : natAbs (toZ w64 (ofZ w64 (toZ w64 (ofZ w64 t) -ℤ negsuc 9223372036854775807))) ≡ keyOf t
-  raised-key = ap natAbs back
-
--- ---- and from zero up
-above : (t : ℤ) → ltZ t (pos 0) ≡ false → t ≡ pos (natAbs t)
-above (pos n) e = refl
-above (negsuc n) e = never e
-
-above-key : (t : ℤ) → ltZ t (pos 0) ≡ false → natAbs t + 9223372036854775808 ≡ keyOf t
-above-key (pos n) e = refl
-above-key (negsuc n) e = never e
-
-above-fits : (t : ℤ) → SFits w64 t → ltZ t (pos 0) ≡ false → natAbs t < 9223372036854775808
-above-fits (pos n) f e = f .sfits
-above-fits (negsuc n) f e = never e
-
-module _ (t : ℤ) (f : SFits w64 t) (e : ltZ (toZ w64 (ofZ w64 t)) (pos 0) ≡ false) where
-  not-negative : ltZ t (pos 0) ≡ false
-  not-negative = ap (λ (z : ℤ). ltZ z (pos 0)) (sym (toZ-ofZ w64 t f)) ∙ e
-
-  read : toZ w64 (ofZ w64 t) ≡ pos (natAbs t)
-  read = toZ-ofZ w64 t f ∙ above t not-negative
-
-  pub plain-cast : T (nonNeg (toZ w64 (ofZ w64 t))) × Fits w64 (natAbs (toZ w64 (ofZ w64 t)))
-  plain-cast = subst (λ (z : ℤ). T (nonNeg z) × Fits w64 (natAbs z)) (sym read) (tt, omega (arith, above-fits t f not-negative))
-
-  pub plain-fits : Fits w64 (natAbs (toZ w64 (ofZ w64 t)) + 9223372036854775808)
-  plain-fits = omega (arith, ap natAbs read, above-fits t f not-negative)
-
-  pub plain-key : natAbs (toZ w64 (ofZ w64 t)) + 9223372036854775808 ≡ keyOf t
-  plain-key = omega (arith, ap natAbs read, above-key t not-negative)
 
 -- ---- the lots on the way
 -- of direction 0, and number 0

@@ -21,11 +21,12 @@ use lib.Ieee.{Float, nan, inf, fin, binary64, fits, inFloat, ofInt, lt, le, eq}
 use Rattle.float.specs.Constants.{nought}
 use Rattle.float.specs.Leaves.{finite}
 use Rattle.float.proofs.Bracket.{bracket, high-above}
+use Rattle.float.proofs.Keys.{sub-below}
 use Rattle.float.proofs.Zero.{clash, zero-gt}
 use Rattle.prices.specs.Prices.{_⊕_, _⊖_, _⊗_, _⊘_, √, denominator, infinite, invPriceSigmoid, lotNumber, lotPrice, summed}
 use Rattle.prices.specs.Blocks.{Near, Sure, BlocksOf, Walkable, addedTo}
 use Rattle.prices.proofs.Curves.{finite-not-infinite, price-by-quotient}
-use Rattle.prices.proofs.Lots.{lot-next, lot-first, read-lot, sub-below}
+use Rattle.prices.proofs.Lots.{lot-next, lot-first, read-lot}
 
 -- ---- a price told by a guess g of the root
 -- 1 - 2 ^ -53 and 1 + 2 ^ -52

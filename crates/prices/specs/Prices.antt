@@ -1,6 +1,6 @@
 -- Prices on the sigmoid curve of chapter 10 of Advances in Financial Machine Learning: the Rust's get_w_sigmoid, inv_price_sigmoid and limit_price_sigmoid, line by line, each operation rounded once. Definitions only.
 use mathlib.Core.Bool.{Bool, true, false, _&&_, _||_, not, cond}
-use Prim.Native.Nat.{ℕ, zero, suc, _+_, _-_}
+use Prim.Native.Nat.{ℕ, zero, suc}
 use lib.Dec.{ltb}
 use lib.IntN.{ℤ, pos, negsuc, natAbs, _+ℤ_, _-ℤ_, _*ℤ_}
 use lib.Ieee.{Float, nan, inf, fin, binary64, add, sub, mul, div, lt, le, eq, ofInt, toSigned}
@@ -107,9 +107,3 @@ limitFrom f w max current d = limitAnswer (lotsRefusal (natAbs d)) (lotPrice f w
 unfoldable pub limitPriceSigmoid : Float → Float → Float → Float → Float → Limit
 unfolding summed
 limitPriceSigmoid t p f w max = limitFrom f w max (toSigned 63 p) (toSigned 63 t -ℤ toSigned 63 p)
-
--- ---- between the parts of the code
--- a position as a number, in the same order: 2^63 more
-abbrev pub keyOf : ℤ → ℕ
-keyOf (pos n) = n + 9223372036854775808
-keyOf (negsuc n) = 9223372036854775808 - suc n

@@ -4,7 +4,7 @@ ghost use Prim.Native.Nat.{ℕ, _≤_};
 ghost use lib.IntN.{natAbs, subℕ};
 ghost use mir.Syntax.{w64};
 ghost use mir.Val.{SFits};
-ghost use Rattle.prices.specs.Prices.{getWSigmoid, infinite, invPriceSigmoid, keyOf, limitPriceSigmoid, lotNumber, lotPrice, overflown, signOf, spoilt, summed, widthLost};
+ghost use Rattle.prices.specs.Prices.{getWSigmoid, infinite, invPriceSigmoid, limitPriceSigmoid, lotNumber, lotPrice, overflown, signOf, spoilt, summed, widthLost};
 
 mod blocks;
 
@@ -88,17 +88,6 @@ pub fn inv_price_sigmoid(forecast_price: f64, w_param: f64, m_bet_size: f64) -> 
     forecast_price - m_bet_size * root::sqrt(quotient)
 }
 
-// A position as a number, 2^63 more: the difference of two positions may leave i64, that of two
-// keys is exact.
-fn key(position: i64) -> u64
-    ensures { λ r. ⌜ r ≡ keyOf position ⌝ }
-{
-    if position < 0 {
-        return (position - (-9223372036854775808)) as u64;
-    }
-    position as u64 + 9223372036854775808
-}
-
 // How many lots lie between two keys.
 fn lots_between(from: u64, to: u64) -> u64
     ensures { λ r. ⌜ r ≡ natAbs (subℕ to from) ⌝ }
@@ -146,8 +135,9 @@ pub fn limit_price_sigmoid(t_pos: f64, pos: f64, f: f64, w: f64, max_pos: f64) -
 {
     let target = number::as_i64(t_pos);
     let current = number::as_i64(pos);
-    let from = key(current);
-    let to = key(target);
+    // the difference of two positions may leave i64, that of their keys does not leave u64
+    let from = number::key(current);
+    let to = number::key(target);
     let lots = lots_between(from, to);
     if lots == 0 {
         return Limit::Price(0.0 / 0.0);

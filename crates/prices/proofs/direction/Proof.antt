@@ -1,8 +1,9 @@
 -- `prices::direction` meets its contract: by which key is larger. Assumes nothing.
 use mathlib.Core.Path.{_≡_, sym, ap}
 use native.Mathlib.Omega.{arith}
+use Rattle.float.proofs.Keys.{sub-above, sub-below}
 use Rattle.prices.specs.Prices.{signOf}
-use Rattle.prices.proofs.Lots.{sub-above, sub-below, sub-same}
+use Rattle.prices.proofs.Lots.{sub-same}
 use Rattle.prices.proofs.direction.Statement.{statement}
 use Rattle.prices.proofs.direction.Tie as tie
 

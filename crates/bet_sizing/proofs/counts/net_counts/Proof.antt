@@ -6,7 +6,8 @@ use lib.ListN.{length, drop, getD}
 use lib.IntN.{ℤ, pos}
 use mir.Syntax.{w64}
 use mir.ValLaws.{toZ-ofZ}
-use Rattle.bet_sizing.specs.Counting.{keyOf, net}
+use Rattle.float.specs.Keys.{keyOf}
+use Rattle.bet_sizing.specs.Counting.{net}
 use Rattle.bet_sizing.specs.Counts.{maximum, whole}
 use Rattle.bet_sizing.specs.Sorting.{rank}
 use Rattle.bet_sizing.proofs.Ranks.{rank-le}
