@@ -1,4 +1,4 @@
--- The starred figures hold: the left side of each row is computed, and is the right side.
+-- The starred figures hold, and so does what is said of too many lots: the left side of each row is computed, and is the right side.
 use mathlib.Core.Path.{refl}
 use lib.Ieee.{round, ofInt, add, sub, mul, div, neg, eq, lt, le, toSigned}
 use Rattle.float.specs.Leaves.{absOf}
@@ -7,9 +7,11 @@ use Rattle.float.specs.Root.{root}
 use Rattle.moments.specs.Comb.{choose}
 use Rattle.moments.specs.Mixture.{getMoments}
 use Rattle.moments.specs.Refusals.{centredMoment, rawMoment, rawOut}
-use Rattle.prices.specs.Prices.{getWSigmoid, invPriceSigmoid, limitPriceSigmoid}
+use Rattle.prices.specs.Prices.{getWSigmoid, invPriceSigmoid}
+use Rattle.limit_price.specs.LimitPrice.{limitPriceSigmoid}
 use Rattle.step.specs.Refusals.{iter4, iter5}
 use Rattle.figures.specs.Figures.{Figures}
+use Rattle.figures.specs.LimitPrices.{Refusals}
 
 infixr 60 _and_
 abbrev _and_ : {A B : Type 0} → A → B → A × B
@@ -31,3 +33,7 @@ figures =
     and refl
     and refl and refl and refl and refl
     and tt
+
+pub refusals : Refusals
+unfolding limitPriceSigmoid toSigned round ofInt
+refusals = record { too-many = refl; too-many-down = refl; not-too-many = refl; end-to-end = refl; infinities = refl; none-at-an-end = refl }

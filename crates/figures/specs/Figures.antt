@@ -13,9 +13,10 @@ use Rattle.moments.specs.declared.Centred.the-variants.{Value}
 use Rattle.moments.specs.declared.Five.{Five}
 use Rattle.moments.specs.declared.Params.{Params}
 use Rattle.moments.specs.declared.Remade.the-variants.{Written}
-use Rattle.prices.specs.Prices.{getWSigmoid, invPriceSigmoid, limitPriceSigmoid}
-use Rattle.prices.specs.declared.Limit.{Limit}
-use Rattle.prices.specs.declared.Limit.the-variants.{Price}
+use Rattle.prices.specs.Prices.{getWSigmoid, invPriceSigmoid}
+use Rattle.limit_price.specs.LimitPrice.{limitPriceSigmoid}
+use Rattle.limit_price.specs.declared.Limit.{Limit}
+use Rattle.limit_price.specs.declared.Limit.the-variants.{Price}
 use Rattle.step.specs.Refusals.{iter4, iter5}
 use Rattle.step.specs.declared.Iterate.the-variants.{Stepped}
 use Rattle.step.specs.declared.Step.the-variants.{Admitted, Inadmissible}

@@ -1,7 +1,7 @@
 // Requests of the sigmoid curve. The function of each takes the request and the place after its
 // name.
 ghost use Rattle.replies.specs.Replies.{Unlisted};
-use prices::Limit;
+use limit_price::Limit;
 use replies::Reply;
 
 pub fn answer(s: &[u8]) -> Reply
@@ -55,5 +55,5 @@ fn limit_price_sigmoid(s: &[u8], at: usize) -> Reply
     if !protocol_lists::read_rest(s, at, &mut v) {
         return Reply::Bad;
     }
-    limit_reply(prices::limit_price_sigmoid(v[0], v[1], v[2], v[3], v[4]))
+    limit_reply(limit_price::limit_price_sigmoid(v[0], v[1], v[2], v[3], v[4]))
 }

@@ -1,4 +1,1 @@
 pub mod Curves
-pub mod Limits
-pub mod Lots
-pub mod Walking

@@ -1,3 +1,1 @@
-pub mod Blocks
-pub mod PriceFigures
 pub mod Prices
