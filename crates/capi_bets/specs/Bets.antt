@@ -8,22 +8,11 @@ use lib.Ieee.{Float}
 use Rattle.bet_sizing.specs.Refusals.{BetSizeBudget, ConcurrentSides, budgetRefusal, countsRefusal, outcome}
 use Rattle.bet_sizing.specs.declared.Outcome.{Outcome}
 use Rattle.bet_sizing.specs.declared.Outcome.the-variants.{Unwritten, Written}
-use Rattle.prices.specs.declared.Limit.{Limit}
-use Rattle.prices.specs.declared.Limit.the-variants.{Refused, Price}
 
 -- no refusal has the number 0, so 0 stands for none
 abbrev pub spansNumber : Outcome → ℕ
 spansNumber (Unwritten n) = n
 spansNumber (Written n) = 0
-
-abbrev pub limitNumber : Limit → ℕ
-limitNumber (Refused n) = n
-limitNumber (Price x) = 0
-
--- the lent price after: a refusal leaves it as it was
-abbrev pub priceAfter : Limit → Float → Float
-priceAfter (Refused n) before = before
-priceAfter (Price x) before = x
 
 -- the outcomes that the library's records call for
 abbrev pub sidesOutcome : List ℤ → List ℤ → List Float → List Float → List Float → Outcome

@@ -1,7 +1,7 @@
--- `capi_bets::woddirme_limit_price_sigmoid` meets its contract: by the library's answer, in both cases. Assumes nothing.
+-- `capi_prices::woddirme_limit_price_sigmoid` meets its contract: by the library's answer, in both cases. Assumes nothing.
 use borrow.Author.Needs.{needs}
-use Rattle.capi_bets.proofs.woddirme_limit_price_sigmoid.Statement.{statement}
-use Rattle.capi_bets.proofs.woddirme_limit_price_sigmoid.Tie as tie
+use Rattle.capi_prices.proofs.woddirme_limit_price_sigmoid.Statement.{statement}
+use Rattle.capi_prices.proofs.woddirme_limit_price_sigmoid.Tie as tie
 
 limit-price-sigmoid-requires : tie.Need-limit-price-sigmoid-requires
 limit-price-sigmoid-requires c κs = search needs
