@@ -6,8 +6,8 @@ use Prim.Native.Nat.{ℕ}
 use lib.Dec.{ltb}
 use lib.ListN.{length}
 use lib.Ieee.{Float}
-use Rattle.step.specs.declared.Iterate.{Iterate}
-use Rattle.step.specs.declared.Iterate.the-variants.{Refused, Stepped}
+use Rattle.iterate.specs.declared.Iterate.{Iterate}
+use Rattle.iterate.specs.declared.Iterate.the-variants.{Refused, Stepped}
 use Rattle.step.specs.declared.Step.{Step}
 use Rattle.step.specs.declared.Step.the-variants.{Admitted, Inadmissible}
 use Rattle.capi_states.specs.States.{withParams}

@@ -3,10 +3,10 @@
 ghost use mathlib.Core.Path.{_≡_};
 ghost use Prim.Native.Nat.{_≤_};
 ghost use lib.ListN.{length};
-ghost use Rattle.step.specs.Refusals.{iter4, iter5};
+ghost use Rattle.iterate.specs.Refusals.{iter4, iter5};
 ghost use Rattle.capi_steps.specs.Steps.{StepLeaves, countIf, numberOf, roomed, withStep};
 ghost use Rattle.capi_steps.specs.Walks.{WalkLeaves, outcomeOf, refusalOf, walked};
-use step::Iterate;
+use iterate::Iterate;
 use step::Step;
 use walk::M2N;
 use walk::Outcome;
@@ -59,7 +59,7 @@ pub extern "C" fn woddirme_iter_4(
 ) -> u64
     ensures { λ r. ⌜ StepLeaves (roomed (iter4 (now (moments .entry)) «mu_2» «p_1») (now (numbers .entry))) (now (admitted .entry)) (now (numbers .entry)) r (now (admitted .exit)) (now (numbers .exit)) ⌝ }
 {
-    let i = step::iter_4(moments, mu_2, p_1);
+    let i = iterate::iter_4(moments, mu_2, p_1);
     leave(i, admitted, numbers)
 }
 
@@ -74,7 +74,7 @@ pub extern "C" fn woddirme_iter_5(
 ) -> u64
     ensures { λ r. ⌜ StepLeaves (roomed (iter5 (now (moments .entry)) «mu_2» «p_1») (now (numbers .entry))) (now (admitted .entry)) (now (numbers .entry)) r (now (admitted .exit)) (now (numbers .exit)) ⌝ }
 {
-    let i = step::iter_5(moments, mu_2, p_1);
+    let i = iterate::iter_5(moments, mu_2, p_1);
     leave(i, admitted, numbers)
 }
 

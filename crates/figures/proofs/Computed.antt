@@ -9,7 +9,7 @@ use Rattle.moments.specs.Mixture.{getMoments}
 use Rattle.moments.specs.Refusals.{centredMoment, rawMoment, rawOut}
 use Rattle.prices.specs.Prices.{getWSigmoid, invPriceSigmoid}
 use Rattle.limit_price.specs.LimitPrice.{limitPriceSigmoid}
-use Rattle.step.specs.Refusals.{iter4, iter5}
+use Rattle.iterate.specs.Refusals.{iter4, iter5}
 use Rattle.figures.specs.Figures.{Figures}
 use Rattle.figures.specs.LimitPrices.{Refusals}
 

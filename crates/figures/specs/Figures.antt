@@ -17,8 +17,8 @@ use Rattle.prices.specs.Prices.{getWSigmoid, invPriceSigmoid}
 use Rattle.limit_price.specs.LimitPrice.{limitPriceSigmoid}
 use Rattle.limit_price.specs.declared.Limit.{Limit}
 use Rattle.limit_price.specs.declared.Limit.the-variants.{Price}
-use Rattle.step.specs.Refusals.{iter4, iter5}
-use Rattle.step.specs.declared.Iterate.the-variants.{Stepped}
+use Rattle.iterate.specs.Refusals.{iter4, iter5}
+use Rattle.iterate.specs.declared.Iterate.the-variants.{Stepped}
 use Rattle.step.specs.declared.Step.the-variants.{Admitted, Inadmissible}
 
 -- ---- how the rows are written

@@ -16,8 +16,7 @@ use Rattle.formula.specs.Degree.{Degree, of, at, Degrees, each, degree, degrees
 use Rattle.formula.specs.Formula.{Expr, var, Stmt, Outcome, admitted, inadmissible, eval, run}
 use Rattle.formula.specs.Met.{Met, met, metBy, allFair}
 use Rattle.formula.proofs.Scaled.{Inputs, none, Holds, Like, constantsFit, constantsFitBy, fair-left, fair-right, formula, program, scale-flat}
-use Rattle.step.specs.Refusals.{firstFour, firstFive}
-use Rattle.step.specs.Steps.{iter-4, iter-5, step-4, step-5, answer, μ₁, μ₂, μ₂′, σ₁, σ₂, p₁′, p₁″}
+use Rattle.step.specs.Steps.{iter-4, iter-5, step-4, step-5, answer, μ₁, μ₂, μ₂′, σ₁, σ₂, p₁′, p₁″, firstFour, firstFive}
 use Rattle.step.specs.declared.Step.{Step}
 use Rattle.step.specs.declared.Step.the-variants.{Admitted, Inadmissible}
 use Rattle.scaling.specs.Scaling.{fairStep, scaleStep}

@@ -14,8 +14,7 @@ use lib.Ieee.{Float, nan, binary64, fits}
 use Rattle.float.specs.Scale.{scale}
 use Rattle.formula.specs.Met.{metBy, allFair}
 use Rattle.moments.specs.declared.Params.{Params}
-use Rattle.step.specs.Refusals.{firstFour, firstFive}
-use Rattle.step.specs.Steps.{iter-4, iter-5}
+use Rattle.step.specs.Steps.{iter-4, iter-5, firstFour, firstFive}
 use Rattle.step.specs.declared.Step.{Step}
 use Rattle.step.specs.declared.Step.the-variants.{Admitted, Inadmissible}
 use Rattle.walk.specs.Trail.{settled, stepFor, trailFrom}

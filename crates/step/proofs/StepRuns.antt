@@ -1,19 +1,14 @@
--- From a run of the program to the step's answer; a step stopped at σ₂²; and the refusals, by their tests. Assumes nothing.
+-- From a run of the program to the step's answer; and a step stopped at σ₂². Assumes nothing.
 use mathlib.Core.Path.{_≡_, refl, sym, ap}
 use mathlib.Core.Bool.{Bool, true, false}
 use mathlib.Core.List.{List, [], _∷_}
-use Prim.Native.Nat.{ℕ, _≤_, _<_}
 use lib.Ieee.{Float, lt}
-use borrow.Author.Tests.{lt-ltb, le-ltb}
 use Rattle.float.specs.Constants.{nought}
 use Rattle.float.specs.Power.{powerOf}
 use Rattle.formula.specs.Formula.{Test, Stmt, fail, Outcome, inadmissible, eval, stops}
 use Rattle.formula.proofs.Runs.{Runs, then, stop, pass, runs}
-use Rattle.step.specs.Refusals.{stepRefusal, stepAnswer, firstFour, firstFive}
-use Rattle.step.specs.declared.Step.{Step}
 use Rattle.step.specs.declared.Step.the-variants.{Inadmissible}
-use Rattle.step.specs.declared.Iterate.the-variants.{Refused, Stepped}
-use Rattle.step.specs.Steps.{iter-4, iter-5, sigma2Squared, step-4, step-5, answer, μ₁, μ₂, μ₂′, σ₁, σ₂, p₁′, p₁″}
+use Rattle.step.specs.Steps.{iter-4, iter-5, sigma2Squared, step-4, step-5, answer, firstFour, firstFive, μ₁, μ₂, μ₂′, σ₁, σ₂, p₁′, p₁″}
 
 pub step-runs-4 : (ms : List Float) (μ p : Float) (o : Outcome) → Runs (μ ∷ p ∷ ms) iter-4 [] o → answer μ₁ μ₂ σ₁ σ₂ p₁′ (μ ∷ p ∷ ms) o ≡ step-4 ms μ p
 unfolding step-4
@@ -36,13 +31,3 @@ negative-4 ms μ p h = sym (step-runs-4 _ _ _ inadmissible (then _ refl (then _ 
 pub negative-5 : (ms : List Float) (μ p : Float) → lt (sigma2Squared ms μ p) nought ≡ true → step-5 (firstFive ms) μ p ≡ Inadmissible
 unfolding iter-5 sigma2Squared stops eval powerOf
 negative-5 ms μ p h = sym (step-runs-5 _ _ _ inadmissible (then _ refl (then _ refl (stopped-by _ refl (then _ refl (stop h))))))
-
--- ---- the refusals, for a step that needs n of l moments
-pub few : (n l : ℕ) (r : Step) → l < n → Refused 1 ≡ stepAnswer (stepRefusal n l) r
-few n l r h = rw (lt-ltb l n h)
-
-pub many : (n l : ℕ) (r : Step) → n ≤ l → 16 < l → Refused 2 ≡ stepAnswer (stepRefusal n l) r
-many n l r h g = rw (le-ltb l n h, lt-ltb 16 l g)
-
-pub taken : (n l : ℕ) (r s : Step) → n ≤ l → l ≤ 16 → r ≡ s → Stepped r ≡ stepAnswer (stepRefusal n l) s
-taken n l r s h g e = rw (le-ltb l n h, le-ltb 16 l g, e)

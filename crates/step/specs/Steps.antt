@@ -1,7 +1,8 @@
 -- The two steps of the fit, from López de Prado and Foreman (2014), as programs of formulas, each beside the Rust's iter_4 and iter_5, line by line. Definitions only.
 use mathlib.Core.List.{List, [], _∷_}
 use Prim.Native.Nat.{ℕ}
-use lib.Ieee.{Float}
+use lib.ListN.{getD}
+use lib.Ieee.{Float, nan}
 use Rattle.float.specs.Constants as constants
 use Rattle.formula.specs.Formula.{Expr, given, var, const, _⊕_, _⊖_, _⊗_, _⊘_, _↑_, √_, Test, isZero, isNegative, notFinite, outsideUnit, isBelow, Stmt, _≔_, fail, Outcome, admitted, inadmissible, eval, run}
 use Rattle.moments.specs.Constants as numbers
@@ -165,3 +166,10 @@ step-4 ms μ p = answer μ₁ μ₂ σ₁ σ₂ p₁′ (μ ∷ p ∷ ms) (run i
 unfoldable pub step-5 : List Float → Float → Float → Step
 unfolding run iter-5
 step-5 ms μ p = answer μ₁ μ₂′ σ₁ σ₂ p₁″ (μ ∷ p ∷ ms) (run iter-5 (μ ∷ p ∷ ms) [])
+
+-- the moments that a step reads, of any list
+abbrev pub firstFour : List Float → List Float
+firstFour m = getD m 0 nan ∷ getD m 1 nan ∷ getD m 2 nan ∷ getD m 3 nan ∷ []
+
+abbrev pub firstFive : List Float → List Float
+firstFive m = getD m 0 nan ∷ getD m 1 nan ∷ getD m 2 nan ∷ getD m 3 nan ∷ getD m 4 nan ∷ []

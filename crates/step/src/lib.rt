@@ -4,9 +4,7 @@ pub mod variance; // variance.rt: sigma_2^2 by itself
 pub use variance::sigma_2_squared;
 ghost use mathlib.Core.Path.{_≡_};
 ghost use mathlib.Core.List.{[], _∷_};
-ghost use lib.ListN.{length};
 ghost use Rattle.step.specs.Steps.{step-4, step-5};
-ghost use Rattle.step.specs.Refusals.{iter4, iter5};
 use moments::Five;
 use moments::Params;
 
@@ -14,11 +12,6 @@ use moments::Params;
 pub enum Step {
     Admitted(Params),
     Inadmissible,
-}
-
-pub enum Iterate {
-    Refused(u64),
-    Stepped(Step),
 }
 
 // The step on the first four of five moments.
@@ -139,42 +132,4 @@ pub fn five(m: Five, mu_2: f64, p_1: f64) -> Step
         }
     }
     Step::Inadmissible
-}
-
-pub fn iter_4(moments: &[f64], mu_2: f64, p_1: f64) -> Iterate
-    ensures { λ r. ⌜ r ≡ iter4 (now (moments .entry)) mu_2 p_1 ⌝ }
-{
-    if moments.len() < 4 {
-        return Iterate::Refused(1);
-    }
-    if 16 < moments.len() {
-        return Iterate::Refused(2);
-    }
-    let m = Five {
-        m_1: moments[0],
-        m_2: moments[1],
-        m_3: moments[2],
-        m_4: moments[3],
-        m_5: 0.0,
-    };
-    Iterate::Stepped(four(m, mu_2, p_1))
-}
-
-pub fn iter_5(moments: &[f64], mu_2: f64, p_1: f64) -> Iterate
-    ensures { λ r. ⌜ r ≡ iter5 (now (moments .entry)) mu_2 p_1 ⌝ }
-{
-    if moments.len() < 5 {
-        return Iterate::Refused(1);
-    }
-    if 16 < moments.len() {
-        return Iterate::Refused(2);
-    }
-    let m = Five {
-        m_1: moments[0],
-        m_2: moments[1],
-        m_3: moments[2],
-        m_4: moments[3],
-        m_5: moments[4],
-    };
-    Iterate::Stepped(five(m, mu_2, p_1))
 }

@@ -1,9 +1,9 @@
 // Requests of one step of the fit. A list longer than 16 is read, and refused by the library.
 ghost use Rattle.replies.specs.Replies.{Unlisted};
+use iterate::Iterate;
 use protocol::Fraction;
 use protocol_lists::List;
 use replies::Reply;
-use step::Iterate;
 use step::Step;
 
 pub fn answer(s: &[u8]) -> Reply
@@ -64,9 +64,9 @@ fn step_reply(t: Step) -> Reply
 fn stepped(m: &[f64], n: usize, reads: u64, mu_2: f64, p_1: f64) -> Iterate {
     let k = protocol::least(n, m.len());
     if reads == 4 {
-        return step::iter_4(&m[..k], mu_2, p_1);
+        return iterate::iter_4(&m[..k], mu_2, p_1);
     }
-    step::iter_5(&m[..k], mu_2, p_1)
+    iterate::iter_5(&m[..k], mu_2, p_1)
 }
 
 fn one_step(s: &[u8], at: usize, reads: u64) -> Reply

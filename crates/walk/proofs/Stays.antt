@@ -10,8 +10,7 @@ use Rattle.moments.specs.Mixture.{getMoments}
 use Rattle.moments.specs.declared.Five.{Five}
 use Rattle.moments.specs.declared.Params.{Params}
 use Rattle.step.proofs.StepRuns.{negative-4, negative-5}
-use Rattle.step.specs.Refusals.{firstFour, firstFive}
-use Rattle.step.specs.Steps.{sigma2Squared, step-4, step-5}
+use Rattle.step.specs.Steps.{sigma2Squared, step-4, step-5, firstFour, firstFive}
 use Rattle.step.specs.declared.Step.{Step}
 use Rattle.step.specs.declared.Step.the-variants.{Admitted, Inadmissible}
 use Rattle.walk.specs.Trail.{stepFor, trailFrom}

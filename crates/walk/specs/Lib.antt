@@ -1,4 +1,3 @@
-pub mod Figures
 pub mod Parts
 pub mod Limit
 pub mod Trail

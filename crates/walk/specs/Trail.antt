@@ -5,8 +5,7 @@ use Prim.Native.Nat.{ℕ, zero, suc}
 use lib.Dec.{eqb}
 use lib.Ieee.{Float, binary64, sub, lt}
 use Rattle.float.specs.Leaves.{absOf}
-use Rattle.step.specs.Refusals.{firstFour, firstFive}
-use Rattle.step.specs.Steps.{step-4, step-5}
+use Rattle.step.specs.Steps.{step-4, step-5, firstFour, firstFive}
 use Rattle.step.specs.declared.Step.{Step}
 use Rattle.step.specs.declared.Step.the-variants.{Admitted, Inadmissible}
 

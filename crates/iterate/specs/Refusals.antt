@@ -1,14 +1,14 @@
 -- What iter_4 and iter_5 answer: document 01's refusals in its order, and otherwise the step on the first moments. Definitions only.
 use mathlib.Core.Bool.{cond}
-use mathlib.Core.List.{List, [], _∷_}
+use mathlib.Core.List.{List}
 use Prim.Native.Nat.{ℕ, zero, suc}
 use lib.Dec.{ltb}
-use lib.ListN.{length, getD}
-use lib.Ieee.{Float, nan}
-use Rattle.step.specs.Steps.{step-4, step-5}
+use lib.ListN.{length}
+use lib.Ieee.{Float}
+use Rattle.step.specs.Steps.{step-4, step-5, firstFour, firstFive}
 use Rattle.step.specs.declared.Step.{Step}
-use Rattle.step.specs.declared.Iterate.{Iterate}
-use Rattle.step.specs.declared.Iterate.the-variants.{Refused, Stepped}
+use Rattle.iterate.specs.declared.Iterate.{Iterate}
+use Rattle.iterate.specs.declared.Iterate.the-variants.{Refused, Stepped}
 
 -- the number of the refusal, 0 for none: 1, fewer moments than the step reads; 2, more than 16
 abbrev pub stepRefusal : ℕ → ℕ → ℕ
@@ -17,12 +17,6 @@ stepRefusal needed len = cond (ltb len needed) 1 (cond (ltb 16 len) 2 0)
 abbrev pub stepAnswer : ℕ → Step → Iterate
 stepAnswer zero r = Stepped r
 stepAnswer (suc n) r = Refused (suc n)
-
-abbrev pub firstFour : List Float → List Float
-firstFour m = getD m 0 nan ∷ getD m 1 nan ∷ getD m 2 nan ∷ getD m 3 nan ∷ []
-
-abbrev pub firstFive : List Float → List Float
-firstFive m = getD m 0 nan ∷ getD m 1 nan ∷ getD m 2 nan ∷ getD m 3 nan ∷ getD m 4 nan ∷ []
 
 unfoldable pub iter4 : List Float → Float → Float → Iterate
 unfolding step-4

@@ -1,9 +1,9 @@
--- `step::iter_5` meets its contract: refused, or the step on the first moments. Assumes nothing.
+-- `iterate::iter_5` meets its contract: refused, or the step on the first moments. Assumes nothing.
 use borrow.Author.Needs.{needs}
-use Rattle.step.specs.Refusals.{iter5}
-use Rattle.step.proofs.StepRuns.{few, many, taken}
-use Rattle.step.proofs.iter_5.Statement.{statement}
-use Rattle.step.proofs.iter_5.Tie as tie
+use Rattle.iterate.specs.Refusals.{iter5}
+use Rattle.iterate.proofs.Refusals.{few, many, taken}
+use Rattle.iterate.proofs.iter_5.Statement.{statement}
+use Rattle.iterate.proofs.iter_5.Tie as tie
 
 returns : tie.Need-returns
 unfolding iter5
