@@ -1,23 +1,16 @@
 // Requests of the number leaves. The function of each takes the request and the place after its
 // name.
-ghost use Rattle.replies.specs.Replies.{Unlisted};
+ghost use mathlib.Core.Path.{_≡_};
+ghost use lib.ListN.{drop};
+ghost use Rattle.number_requests.specs.Leaves.{abs, asI64, asUsize, casts, i64AsF64, isFinite, larger, leaves, powi, sqrt};
+ghost use Rattle.replies.specs.Requests.{only};
 use protocol::Fraction;
 use replies::Reply;
 use text::Instant;
 use text::Number;
 
 pub fn answer(s: &[u8]) -> Reply
-    ensures { λ r. ⌜ Unlisted r ⌝ }
-{
-    let r = of_numbers(s);
-    if !replies::is_bad(r) {
-        return r;
-    }
-    of_casts(s)
-}
-
-fn of_numbers(s: &[u8]) -> Reply
-    ensures { λ r. ⌜ Unlisted r ⌝ }
+    ensures { λ r. ⌜ r ≡ leaves (now (s .entry)) ⌝ }
 {
     if protocol::begins(s, b"sqrt ") {
         return sqrt(s, 4);
@@ -31,11 +24,11 @@ fn of_numbers(s: &[u8]) -> Reply
     if protocol::begins(s, b"powi ") {
         return powi(s, 4);
     }
-    Reply::Bad
+    of_casts(s)
 }
 
 fn of_casts(s: &[u8]) -> Reply
-    ensures { λ r. ⌜ Unlisted r ⌝ }
+    ensures { λ r. ⌜ r ≡ casts (now (s .entry)) ⌝ }
 {
     if protocol::begins(s, b"is_finite ") {
         return is_finite(s, 9);
@@ -53,7 +46,7 @@ fn of_casts(s: &[u8]) -> Reply
 }
 
 fn sqrt(s: &[u8], at: usize) -> Reply
-    ensures { λ r. ⌜ Unlisted r ⌝ }
+    ensures { λ r. ⌜ r ≡ only (sqrt (drop at (now (s .entry)))) ⌝ }
 {
     let mut v = [0.0f64; 1];
     if !protocol_lists::read_rest(s, at, &mut v) {
@@ -63,7 +56,7 @@ fn sqrt(s: &[u8], at: usize) -> Reply
 }
 
 fn abs(s: &[u8], at: usize) -> Reply
-    ensures { λ r. ⌜ Unlisted r ⌝ }
+    ensures { λ r. ⌜ r ≡ only (abs (drop at (now (s .entry)))) ⌝ }
 {
     let mut v = [0.0f64; 1];
     if !protocol_lists::read_rest(s, at, &mut v) {
@@ -73,7 +66,7 @@ fn abs(s: &[u8], at: usize) -> Reply
 }
 
 fn is_finite(s: &[u8], at: usize) -> Reply
-    ensures { λ r. ⌜ Unlisted r ⌝ }
+    ensures { λ r. ⌜ r ≡ only (isFinite (drop at (now (s .entry)))) ⌝ }
 {
     let mut v = [0.0f64; 1];
     if !protocol_lists::read_rest(s, at, &mut v) {
@@ -86,7 +79,7 @@ fn is_finite(s: &[u8], at: usize) -> Reply
 }
 
 fn as_i64(s: &[u8], at: usize) -> Reply
-    ensures { λ r. ⌜ Unlisted r ⌝ }
+    ensures { λ r. ⌜ r ≡ only (asI64 (drop at (now (s .entry)))) ⌝ }
 {
     let mut v = [0.0f64; 1];
     if !protocol_lists::read_rest(s, at, &mut v) {
@@ -96,7 +89,7 @@ fn as_i64(s: &[u8], at: usize) -> Reply
 }
 
 fn as_usize(s: &[u8], at: usize) -> Reply
-    ensures { λ r. ⌜ Unlisted r ⌝ }
+    ensures { λ r. ⌜ r ≡ only (asUsize (drop at (now (s .entry)))) ⌝ }
 {
     let mut v = [0.0f64; 1];
     if !protocol_lists::read_rest(s, at, &mut v) {
@@ -105,20 +98,8 @@ fn as_usize(s: &[u8], at: usize) -> Reply
     Reply::Natural(number::as_usize(v[0]) as u64)
 }
 
-fn i64_as_f64(s: &[u8], at: usize) -> Reply
-    ensures { λ r. ⌜ Unlisted r ⌝ }
-{
-    let Instant::Is(n, k) = protocol::read_next_instant(s, at) else {
-        return Reply::Bad;
-    };
-    if k != s.len() {
-        return Reply::Bad;
-    }
-    Reply::Fraction(number::i64_as_f64(n))
-}
-
 fn larger(s: &[u8], at: usize) -> Reply
-    ensures { λ r. ⌜ Unlisted r ⌝ }
+    ensures { λ r. ⌜ r ≡ only (larger (drop at (now (s .entry)))) ⌝ }
 {
     let mut v = [0.0f64; 2];
     if !protocol_lists::read_rest(s, at, &mut v) {
@@ -127,8 +108,20 @@ fn larger(s: &[u8], at: usize) -> Reply
     Reply::Fraction(number::larger(v[0], v[1]))
 }
 
+fn i64_as_f64(s: &[u8], at: usize) -> Reply
+    ensures { λ r. ⌜ r ≡ only (i64AsF64 (drop at (now (s .entry)))) ⌝ }
+{
+    let Instant::Is(n, k) = protocol::read_next_instant(s, at) else {
+        return Reply::Bad;
+    };
+    if k < s.len() {
+        return Reply::Bad;
+    }
+    Reply::Fraction(number::i64_as_f64(n))
+}
+
 fn powi(s: &[u8], at: usize) -> Reply
-    ensures { λ r. ⌜ Unlisted r ⌝ }
+    ensures { λ r. ⌜ r ≡ only (powi (drop at (now (s .entry)))) ⌝ }
 {
     let Fraction::Is(x, k) = protocol::read_next_fraction(s, at) else {
         return Reply::Bad;
@@ -136,7 +129,7 @@ fn powi(s: &[u8], at: usize) -> Reply
     let Number::Is(n, e) = protocol::read_next_natural(s, k, 16) else {
         return Reply::Bad;
     };
-    if e != s.len() {
+    if e < s.len() {
         return Reply::Bad;
     }
     Reply::Fraction(number::powi(x, n as usize))

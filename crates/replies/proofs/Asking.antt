@@ -1,10 +1,12 @@
 -- How a request is read: whether its line begins with a name, and whether nothing follows its words. By cases on what was read. Assumes nothing.
-use Prim.Native.Nat.{ℕ}
+use Prim.Native.Nat.{ℕ, _≤_, _<_}
 use mathlib.Core.Path.{_≡_, refl, sym, _∙_, ap}
-use mathlib.Core.Bool.{Bool, true, false}
+use mathlib.Core.Bool.{Bool, true, false, not, cond}
 use mathlib.Core.List.{List, [], _∷_}
-use lib.Ieee.{Float}
-use lib.ListN.{length}
+use borrow.Author.Tests.{not-true, not-false}
+use lib.Ieee.{Float, binary64, ofBits}
+use lib.ListN.{length, drop, drop-of-length-le, replicate, length-replicate}
+use lib.Seq.{drop-cons}
 use Rattle.text.specs.Decode.{Got, got, bad, _▷_}
 use Rattle.protocol.specs.Words.{nextFraction}
 use Rattle.protocol_lists.specs.Lists.{entries, fractions, fractionsIn, isRest, valuesOf}
@@ -12,18 +14,18 @@ use Rattle.protocol_lists.proofs.Reading.{all-fractions}
 use Rattle.replies.specs.Requests.{only}
 use Rattle.replies.specs.declared.forms.Reply as reply
 
+-- ---- words that are n fractions and the rest of the line, as protocol_lists::read_rest reads them into a new list, v after it, and answers r
 module _ (n : ℕ) (s : List ℕ) (f : List Float → reply.Reply) where
-  -- the words of a request that are n fractions
   abbrev asked : reply.Reply
   asked = only (fractions n s ▷ (λ v t. got (f v) t))
 
-  by-rest : (old : List Float) → length old ≡ n → (g : Got (Unit {0})) → entries n s ≡ g → true ≡ isRest g → f (fractionsIn old s) ≡ asked
-  by-rest old o (got u []) e h = sym (ap {B = reply.Reply} (λ a. only (a ▷ (λ v t. got (f v) t))) (all-fractions n s [] old _ o e refl))
-  by-rest old o (got u (b ∷ t)) e h = cc
-  by-rest old o bad e h = cc
+  abbrev zeros : List Float
+  zeros = replicate n (ofBits binary64 0)
 
-  pub rest-yes : (old : List Float) → length old ≡ n → true ≡ isRest (entries n s) → f (fractionsIn old s) ≡ asked
-  rest-yes old o h = by-rest old o (entries n s) refl h
+  by-rest : (v : List Float) → v ≡ fractionsIn zeros s → (g : Got (Unit {0})) → entries n s ≡ g → true ≡ isRest g → f v ≡ asked
+  by-rest v is (got u []) e h = sym (ap {B = reply.Reply} (λ a. only (a ▷ (λ v t. got (f v) t))) (all-fractions n s [] zeros v (length-replicate _ _) e is))
+  by-rest v is (got u (b ∷ t)) e h = cc
+  by-rest v is bad e h = cc
 
   not-rest : (g : Got (Unit {0})) → false ≡ isRest g
       → reply.the-variants.Bad ≡ only (g ▷ (λ u t. got (valuesOf nextFraction n s) t) ▷ (λ v t. got (f v) t))
@@ -31,5 +33,24 @@ module _ (n : ℕ) (s : List ℕ) (f : List Float → reply.Reply) where
   not-rest (got u (b ∷ t)) h = refl
   not-rest bad h = refl
 
-  pub rest-no : false ≡ isRest (entries n s) → reply.the-variants.Bad ≡ asked
-  rest-no h = not-rest (entries n s) h
+  pub rest-yes : (v : List Float) (r : Bool) → (r ≡ isRest (entries n s)) × (v ≡ fractionsIn zeros s) → not r ≡ false → f v ≡ asked
+  rest-yes v r is h = by-rest v (is .1) (entries n s) refl (sym (not-false r h) ∙ is .0)
+
+  pub rest-no : (r : Bool) → r ≡ isRest (entries n s) → not r ≡ true → reply.the-variants.Bad ≡ asked
+  rest-no r is h = not-rest (entries n s) (sym (not-true r h) ∙ is)
+
+-- ---- words that end at a place k: what is left of the line must be nothing
+module _ (r : reply.Reply) (s : List ℕ) (k : ℕ) where
+  pub ended : length s ≤ k → r ≡ only (got r (drop k s))
+  ended h = rw (drop-of-length-le s)
+
+  pub not-ended : k < length s → reply.the-variants.Bad ≡ only (got r (drop k s))
+  not-ended h = rw (drop-cons s k 0)
+
+-- ---- which name a line begins with, as protocol::begins answers b: the reply r is that of the words (x), or that of the names after it (y)
+module _ {A : Type 0} {b t : Bool} {r : A} where
+  pub named-yes : {x : A} (y : A) → b ≡ t → b ≡ true → r ≡ x → r ≡ cond t x y
+  named-yes y e h is = rw (sym e ∙ h) is
+
+  pub named-no : {y : A} (x : A) → b ≡ t → b ≡ false → r ≡ y → r ≡ cond t x y
+  named-no x e h is = rw (sym e ∙ h) is
