@@ -1,6 +1,3 @@
 -- Laws that belong to no one function, on plain values.
 pub mod Answering
-pub mod Filling
-pub mod Going
 pub mod Rowing
-pub mod Spelling

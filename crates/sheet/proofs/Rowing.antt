@@ -9,7 +9,7 @@ use borrow.Author.Tests.{le-leb, le-ltb, eq-eqb}
 use lib.IntN.{ℤ, pos}
 use lib.Ieee.{Float, nan, binary64, toBits, toUnsigned, inFloat}
 use lib.Ieee.Back.{unsigned-back}
-use lib.ListN.{length, take, getD, length-append}
+use lib.ListN.{length, take, getD}
 use lib.Seq.{take-suc}
 use Rattle.bet_sizing.specs.Budget.{budgetSize}
 use Rattle.bet_sizing.specs.Counts.{concurrent, live, onSide, whole}
@@ -18,9 +18,9 @@ use Rattle.bet_sizing.specs.declared.Outcome.{Outcome}
 use Rattle.bet_sizing.proofs.Ranks.{indicator-le}
 use Rattle.bet_sizing.proofs.Sizing.{map-at}
 use Rattle.text.specs.Print.{Placed}
-use Rattle.text.proofs.Digits.{decimal-short, shown-short, hex-length}
 use Rattle.text.proofs.Placing.{Front, front-none, front-then}
-use Rattle.sheet.specs.Forms.{rowLine}
+use Rattle.sheet_forms.proofs.Rows.{row-short}
+use Rattle.sheet_forms.specs.Forms.{rowLine}
 use Rattle.sheet.specs.Meaning.{Countable, Rowable}
 use Rattle.sheet.specs.Rows.{rowAt, textOf}
 
@@ -35,13 +35,6 @@ concurrent-few long t (s ∷ ss) (e ∷ es) (d ∷ ds) = omega (arith, indicator
 whole-back : (n : ℕ) → n ≤ 1024 → toUnsigned 64 (whole n) ≡ n
 unfolding whole inFloat
 whole-back n h = unsigned-back binary64 64 n (rw (le-leb n 9007199254740992 (omega arith)) tt) (omega arith) .1
-
--- ---- a row is at most 128 bytes long
-pub row-short : (t : ℤ) (long short size : ℕ) → length (rowLine t long short size) ≤ 128
-unfolding rowLine
-row-short t long short size =
-    simp length-append
-    (omega (arith, shown-short t, decimal-short long, decimal-short short, hex-length size))
 
 -- ---- one row more
 text-snoc : (f : ℤ → List ℕ) (l : List ℤ) (t : ℤ) → textOf f (l ++ (t ∷ [])) ≡ textOf f l ++ f t

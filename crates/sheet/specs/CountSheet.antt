@@ -3,9 +3,9 @@ use Prim.Native.Nat.{ℕ}
 use mathlib.Core.List.{List, map, _++_}
 use Rattle.text.specs.Bytes.{bytes}
 use Rattle.text.specs.Print.{decimal}
-use Rattle.sheet.specs.Meaning.{fromOf, toOf, sideOf}
+use Rattle.sheet_read.specs.Meaning.{fromOf, toOf, sideOf}
+use Rattle.sheet_read.specs.Sheet.{Reading, accepted, refused, refusedAt, sheet}
 use Rattle.sheet.specs.Rows.{rowLines}
-use Rattle.sheet.specs.Sheet.{Reading, accepted, refused, refusedAt, sheet}
 
 -- the only line where a sheet is refused
 unfoldable pub refusal : ℕ → List ℕ

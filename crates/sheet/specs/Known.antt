@@ -9,10 +9,10 @@ use Rattle.bet_sizing.specs.Counts.{concurrent, maximum, whole}
 use Rattle.text.specs.Bytes.{bytes}
 use Rattle.text.specs.Decode.{word, nibble, numeral, natural, instant, hexes}
 use Rattle.text.specs.Print.{width, decimal, hex, shown}
+use Rattle.sheet_forms.specs.Forms.{spanForm, lineForm, rowLine, spanText, spanLines}
+use Rattle.sheet_read.specs.Sheet.{lines, sheet, accepted}
 use Rattle.sheet.specs.CountSheet.{countSheet, refusalAt}
-use Rattle.sheet.specs.Forms.{spanForm, lineForm, rowLine, spanText, spanLines}
 use Rattle.sheet.specs.Rows.{rowAt, textOf}
-use Rattle.sheet.specs.Sheet.{lines, sheet, accepted}
 
 worked : countSheet
     (bytes "(span (from 0) (to 10) (side 3ff0000000000000))\n"

@@ -1,11 +1,11 @@
 // A sheet as a whole, bytes in to bytes out.
+ghost use mathlib.Core.Path.{_≡_};
 ghost use Prim.Native.Nat.{_≤_};
 ghost use lib.ListN.{length};
 ghost use Rattle.text.specs.Print.{Fronts, Placed};
 ghost use Rattle.sheet.specs.CountSheet.{countSheet, refusal, refusalAt};
-use crate::reading;
-use crate::reading::Sheet;
 use crate::rows;
+use sheet_read::Sheet;
 
 fn put_refusal(out: &mut [u8], number: u64) -> usize
     requires { ⌜ 131072 ≤ length (now out) ⌝ }
@@ -35,7 +35,7 @@ fn put_answer(s: &[u8], out: &mut [u8]) -> usize
     let mut starts = [0i64; 1024];
     let mut ends = [0i64; 1024];
     let mut sides = [0.0f64; 1024];
-    let r = reading::read_sheet(s, &mut starts, &mut ends, &mut sides);
+    let r = sheet_read::read_sheet(s, &mut starts, &mut ends, &mut sides);
     match r {
         Sheet::Accepted(n) => {
             return rows::put(&starts[..n], &ends[..n], &sides[..n], out);
@@ -49,12 +49,19 @@ fn put_answer(s: &[u8], out: &mut [u8]) -> usize
     }
 }
 
+// Room for 1,024 rows of 128 bytes.
+fn out_room() -> [u8; 131072]
+    ensures { λ r. ⌜ 131072 ≡ length r ⌝ }
+{
+    [0u8; 131072]
+}
+
 // Puts the answer to the sheet s at the front of out and tells its length: the rows, or the one
 // line that refuses it. Where out has too little room it stays as it is, and the answer is 0.
 pub fn count_sheet(s: &[u8], out: &mut [u8]) -> usize
     ensures { λ r. ⌜ Placed (now (out .entry)) (now (out .exit)) 0 r (countSheet (now (s .entry))) ⌝ }
 {
-    let mut room = [0u8; 131072];
+    let mut room = out_room();
     let n = put_answer(s, &mut room);
     text_write::put(out, 0, &room[..n])
 }

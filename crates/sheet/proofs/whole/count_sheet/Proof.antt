@@ -5,6 +5,9 @@ use lib.Seq.{length-take-le}
 use Rattle.sheet.proofs.whole.count_sheet.Statement.{statement}
 use Rattle.sheet.proofs.whole.count_sheet.Tie as tie
 
+out-room-requires : tie.Need-out-room-requires
+out-room-requires c κs = search needs
+
 slice-aggregate-put-answer : tie.Need-slice-aggregate-put-answer
 slice-aggregate-put-answer c = search needs
 
@@ -30,6 +33,7 @@ pub count-sheet-spec : {M : Type 1} → statement M
 count-sheet-spec =
     tie.close
     (tie.spec
+    out-room-requires
     slice-aggregate-put-answer
     put-answer-requires
     array-share-prefix-room
