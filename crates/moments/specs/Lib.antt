@@ -4,4 +4,3 @@ pub mod Figures
 pub mod Mixture
 pub mod Orders
 pub mod Refusals
-pub mod Remade

@@ -24,16 +24,16 @@ use Rattle.formula.proofs.Integers.{integers, neg-times}
 use Rattle.formula.proofs.Exact.{same-number}
 use Rattle.formula.proofs.Values.{one-value, sum-value, power-value}
 use Rattle.formula.proofs.WholeRuns.{given-value, parts, run-exact, sum-parts}
 use Rattle.moments.specs.Comb.{choose}
 use Rattle.moments.specs.Constants.{minusOne}
 use Rattle.moments.specs.Orders.{numbered, centredTerm, centred, centredSum, rawTerm, raw, rawSum, rawValue, firsts}
 use Rattle.moments.specs.Refusals.{atLeastOne, centredMoment, rawMoment, rawOut}
-use Rattle.moments.specs.Remade.{every, centreds, remade, wholeThroughout, RemadeAreFirst}
+use Rattle.remade.specs.Remade.{every, centreds, remade, wholeThroughout, RemadeAreFirst}
 use Rattle.moments.specs.declared.Centred.the-variants.{Value}
 use Rattle.moments.specs.declared.Remade.the-variants.{Written}
-use Rattle.moments.proofs.Binomial.{binomial, bsum, bsum-same, diff, centred-is, raw-is, undone}
-use Rattle.moments.proofs.CombTable.{every-at, choose-exact, comb-whole, sign-exact, sign-whole, centred-constants, raw-constants, centred-roots, raw-roots}
+use Rattle.remade.proofs.Binomial.{binomial, bsum, bsum-same, diff, centred-is, raw-is, undone}
+use Rattle.remade.proofs.CombTable.{every-at, choose-exact, comb-whole, sign-exact, sign-whole, centred-constants, raw-constants, centred-roots, raw-roots}
 use Rattle.moments.proofs.Turns.{length-firsts}
 
 -- ---- the two sums over the integers
 module _ {Z : Type 0} (R : Ring Z) where

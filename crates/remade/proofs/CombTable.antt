@@ -15,11 +15,11 @@ use Rattle.formula.specs.Exact.{rootables}
 use Rattle.formula.specs.Whole.{isWhole, intOf, wholeConstants}
 use Rattle.formula.proofs.Ring.{pw}
 use Rattle.formula.proofs.Integers.{integers}
 use Rattle.moments.specs.Comb.{falling, rising, lesser, choose}
 use Rattle.moments.specs.Constants.{minusOne}
 use Rattle.moments.specs.Orders.{centred, raw}
-use Rattle.moments.specs.Remade.{every}
-use Rattle.moments.proofs.Binomial.{binomial}
+use Rattle.remade.specs.Remade.{every}
+use Rattle.remade.proofs.Binomial.{binomial}
 
 pub every-at : (p : ℕ → Bool) (n k : ℕ) → k < n → T (every p n) → T (p k)
 unfolding every

@@ -1,0 +1,4 @@
+pub mod Binomial
+pub mod CombTable
+pub mod Examples
+pub mod Remaking
