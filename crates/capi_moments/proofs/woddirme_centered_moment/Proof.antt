@@ -1,7 +1,7 @@
--- `capi_numbers::mixture::woddirme_centered_moment` meets its contract: by the library's answer, in both cases. Assumes nothing.
+-- `capi_moments::woddirme_centered_moment` meets its contract: by the library's answer, in both cases. Assumes nothing.
 use borrow.Author.Needs.{needs}
-use Rattle.capi_numbers.proofs.mixture.woddirme_centered_moment.Statement.{statement}
-use Rattle.capi_numbers.proofs.mixture.woddirme_centered_moment.Tie as tie
+use Rattle.capi_moments.proofs.woddirme_centered_moment.Statement.{statement}
+use Rattle.capi_moments.proofs.woddirme_centered_moment.Tie as tie
 
 centered-moment-requires : tie.Need-centered-moment-requires
 centered-moment-requires c κs = search needs

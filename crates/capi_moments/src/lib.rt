@@ -1,11 +1,12 @@
-// The moments of a mixture, and the change between raw and centred moments. Each answers 0, or the number
-// of the refusal, which leaves all as it was.
+// The moments of a mixture, and the change between raw and centred moments, for C. Each answers 0, or the
+// number of the refusal, which leaves all as it was. A slice is a pointer and a length.
+// include/woddirme.h declares them.
 ghost use mathlib.Core.Path.{_≡_};
 ghost use Prim.Native.Nat.{_≤_};
 ghost use lib.ListN.{length};
 ghost use Rattle.moments.specs.Mixture.{getMoments};
 ghost use Rattle.moments.specs.Refusals.{centredMoment, rawMoment, rawOut};
-ghost use Rattle.capi_numbers.specs.Moments.{centredAfter, centredNumber, momentsAfter, momentsNumber, paramsOf, rawNumber, withFive};
+ghost use Rattle.capi_moments.specs.Moments.{centredAfter, centredNumber, momentsAfter, momentsNumber, paramsOf, rawNumber, withFive};
 use moments::Centred;
 use moments::Five;
 use moments::Params;

@@ -1,9 +1,9 @@
--- `capi_numbers::mixture::woddirme_raw_moment` meets its contract: by what each call ensures. Assumes nothing.
+-- `capi_moments::woddirme_raw_moment` meets its contract: by what each call ensures. Assumes nothing.
 use mathlib.Core.Path.{ap, _∙_}
-use Rattle.capi_numbers.specs.Moments.{rawNumber}
+use Rattle.capi_moments.specs.Moments.{rawNumber}
 use borrow.Author.Needs.{needs}
-use Rattle.capi_numbers.proofs.mixture.woddirme_raw_moment.Statement.{statement}
-use Rattle.capi_numbers.proofs.mixture.woddirme_raw_moment.Tie as tie
+use Rattle.capi_moments.proofs.woddirme_raw_moment.Statement.{statement}
+use Rattle.capi_moments.proofs.woddirme_raw_moment.Tie as tie
 
 raw-moment-requires : tie.Need-raw-moment-requires
 raw-moment-requires c κs = search needs

@@ -1,9 +1,9 @@
--- `capi_numbers::mixture::put_five` meets its contract: the stores are `withFive`'s, and none of them changes the length. Assumes nothing.
+-- `capi_moments::put_five` meets its contract: the stores are `withFive`'s, and none of them changes the length. Assumes nothing.
 use native.Mathlib.Omega.{arith}
 use lib.ListN.{length-set}
 use borrow.Author.Needs.{needs}
-use Rattle.capi_numbers.proofs.mixture.put_five.Statement.{statement}
-use Rattle.capi_numbers.proofs.mixture.put_five.Tie as tie
+use Rattle.capi_moments.proofs.put_five.Statement.{statement}
+use Rattle.capi_moments.proofs.put_five.Tie as tie
 
 slice-write-l : tie.Need-slice-write-l
 slice-write-l c = search needs

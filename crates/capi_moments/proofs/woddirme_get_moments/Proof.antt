@@ -1,9 +1,9 @@
--- `capi_numbers::mixture::woddirme_get_moments` meets its contract: by whether there are five places. Assumes nothing.
+-- `capi_moments::woddirme_get_moments` meets its contract: by whether there are five places. Assumes nothing.
 use borrow.Author.Tests.{lt-ltb, le-ltb}
 use lib.ListN.{length}
 use borrow.Author.Needs.{needs}
-use Rattle.capi_numbers.proofs.mixture.woddirme_get_moments.Statement.{statement}
-use Rattle.capi_numbers.proofs.mixture.woddirme_get_moments.Tie as tie
+use Rattle.capi_moments.proofs.woddirme_get_moments.Statement.{statement}
+use Rattle.capi_moments.proofs.woddirme_get_moments.Tie as tie
 
 returns : tie.Need-returns
 returns c =
