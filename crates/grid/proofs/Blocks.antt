@@ -1,8 +1,8 @@
 -- Rows a block at a time: each σ₂² put in its place, and a row whose σ₂² is below zero leaves the search as it was. Assumes nothing.
-use mathlib.Core.Path.{_≡_, refl, sym, ap, _∙_}
+use mathlib.Core.Path.{_≡_, refl, sym, ap, subst, _∙_}
 use mathlib.Core.List.{List}
 use mathlib.Core.Bool.{Bool, true, false, cond}
-use Prim.Native.Nat.{ℕ, zero, suc, _+_, _<_}
+use Prim.Native.Nat.{ℕ, zero, suc, _+_, _≤_, _<_}
 use native.Mathlib.Numerals.{add-one}
 use native.Mathlib.Omega.{arith}
 use lib.ListN.{length, getD, set}
@@ -19,7 +19,7 @@ use Rattle.walk.proofs.Trails.{five-enough}
 use Rattle.walk.specs.Walk.{fiveOf, walkOf}
 use Rattle.walk.specs.declared.M2N.{M2N}
 use Rattle.grid.specs.Rows.{rowOf}
-use Rattle.grid.specs.Search.{meanOf, looked, searchTo, varianceOf, Variances}
+use Rattle.grid.specs.Search.{meanOf, looked, searchTo}
 use Rattle.grid.specs.declared.Best.the-variants.{Row}
 use Rattle.grid.specs.declared.search.Search.{Search}
 
@@ -49,18 +49,19 @@ plus-none a = omega arith
 pub plus-one : (a b : ℕ) → a + b + 1 ≡ a + (b + 1)
 plus-one a b = omega arith
 
+-- ---- a number put in place j of a list
+-- what is known of each number before j, and of x, is known of each before j + 1
+pub put-more : (P : ℕ → Float → Type 0) (j : ℕ) (v : List Float) (x : Float) → j < length v → ((i : ℕ) → i < j → P i (getD v i nan)) → P j x → (i : ℕ) → i < j + 1 → P i (getD (set v j x) i nan)
+put-more P j v x h all hx = below-more (λ i. P i (getD (set v j x) i nan)) j (λ i l. subst (P i) (sym (getD-set-other v j i x nan (λ e. absurd (omega (arith, e, l))))) (all i l)) (subst (P j) (sym (getD-set-same v j x nan h)) hx)
+
+-- and those after it stay
+pub put-later : (j : ℕ) (u v : List Float) (x : Float) → ((i : ℕ) → j ≤ i → getD v i nan ≡ getD u i nan) → (i : ℕ) → j + 1 ≤ i → getD (set v j x) i nan ≡ getD u i nan
+put-later j u v x all i h = getD-set-other v j i x nan (λ e. absurd (omega (arith, e, h))) ∙ all i (omega (arith, h))
+
+pub mean-is : (m : M2N) (deviation : Float) (i : ℕ) (x : Float) → x ≡ meanOf m deviation (i + 1) → x ≡ meanOf m deviation (suc i)
+mean-is m deviation i x h = h ∙ ap (meanOf m deviation) (add-one i)
+
 module _ (m : M2N) (deviation : Float) (weights : List Float) where
-  -- ---- the variances of a block
-  pub variance-is : (i : ℕ) (a : Five) (μ x : Float) → a ≡ fiveOf (m .moments) → μ ≡ meanOf m deviation (i + 1) → x ≡ sigma2Squared (listed a) μ (getD weights i nan) → x ≡ varianceOf m deviation weights i
-  variance-is i a μ x ha hμ hx =
-      hx
-      ∙ sym (five-enough (m .moments) a μ (getD weights i nan) ha)
-      ∙ ap (λ y. sigma2Squared (m .moments) y (getD weights i nan)) (hμ ∙ ap (meanOf m deviation) (add-one i))
-
-  pub variance-more : (from j : ℕ) (v : List Float) (x : Float) → j < length v → Variances m deviation weights from j v → x ≡ varianceOf m deviation weights (from + j) → Variances m deviation weights from (j + 1) (set v j x)
-  variance-more from j v x h all hx =
-      below-more (λ k. getD (set v j x) k nan ≡ varianceOf m deviation weights (from + k)) j (λ k l. getD-set-other v j k x nan (λ e. absurd (omega (arith, e, l))) ∙ all k l) (getD-set-same v j x nan h ∙ hx)
-
   -- ---- the search after i rows
   moments-stay : (i : ℕ) → searchTo m deviation weights i .state .moments ≡ m .moments
   unfolding searchTo
@@ -79,11 +80,12 @@ module _ (m : M2N) (deviation : Float) (weights : List Float) where
       seen-least (lt (x .error) (s .«err_min»)) s x refl
 
   -- ---- one row more
-  pub row-passed : (i : ℕ) (s : Search) (x : Float) → s ≡ searchTo m deviation weights i → x ≡ varianceOf m deviation weights i → lt x nought ≡ true → s ≡ searchTo m deviation weights (i + 1)
+  pub row-passed : (i : ℕ) (s : Search) (a : Five) (ν x : Float) → s ≡ searchTo m deviation weights i → a ≡ fiveOf (m .moments) → ν ≡ meanOf m deviation (suc i) → x ≡ sigma2Squared (listed a) ν (getD weights i nan) → lt x nought ≡ true → s ≡ searchTo m deviation weights (i + 1)
   unfolding searchTo
-  row-passed i s x hs hx h =
+  row-passed i s a ν x hs ha hν hx h =
       let t = searchTo m deviation weights i in
       let μ = meanOf m deviation (suc i) in
       let p = getD weights i nan in
-      let negative = ap (λ y. lt (sigma2Squared y μ p) nought) (moments-stay i) ∙ ap (λ y. lt y nought) (sym hx) ∙ h in
+      let its = hx ∙ sym (five-enough (m .moments) a ν p ha) ∙ ap (λ y. sigma2Squared (m .moments) y p) hν in
+      let negative = ap (λ y. lt (sigma2Squared y μ p) nought) (moments-stay i) ∙ ap (λ y. lt y nought) (sym its) ∙ h in
       hs ∙ sym (ap (looked t) (stays (t .state) μ p negative) ∙ seen-again t (least i)) ∙ ap (searchTo m deviation weights) (sym (add-one i))

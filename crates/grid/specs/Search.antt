@@ -79,13 +79,14 @@ unfoldable pub singleFit : M2N → Epsilon → List Float → Fitted
 unfolding gridRefusal fitOf
 singleFit m e weights = answered (gridRefusal m (inForce m e) 1 weights) m (fitOf m (inForce m e) weights)
 
--- σ₂² of the first step of the row after the first i
-abbrev pub varianceOf : M2N → Float → List Float → ℕ → Float
-varianceOf m deviation weights i = sigma2Squared (m .moments) (meanOf m deviation (suc i)) (getD weights i nan)
+-- ---- what the parts promise each other
+-- the starting means of the k rows after the first `from`
+abbrev pub Means : M2N → Float → ℕ → ℕ → List Float → Type 0
+Means m deviation from k u = (j : ℕ) → j < k → getD u j nan ≡ meanOf m deviation (suc (from + j))
 
--- those of the k rows after the first `from`
-abbrev pub Variances : M2N → Float → List Float → ℕ → ℕ → List Float → Type 0
-Variances m deviation weights from k v = (j : ℕ) → j < k → getD v j nan ≡ varianceOf m deviation weights (from + j)
+-- σ₂² of the first step from each of the first k means, with the weights after the first `from`
+abbrev pub Variances : List Float → List Float → List Float → ℕ → ℕ → List Float → Type 0
+Variances ms u weights from k v = (j : ℕ) → j < k → getD v j nan ≡ sigma2Squared ms (getD u j nan) (getD weights (from + j) nan)
 
 -- what a search that is not refused rests on
 abbrev pub Served : M2N → Float → List Float → Type 0

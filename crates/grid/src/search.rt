@@ -2,12 +2,14 @@
 ghost use mathlib.Core.Path.{_≡_};
 ghost use Prim.Native.Nat.{_+_, _≤_, min};
 ghost use lib.ListN.{length};
+ghost use Rattle.moments.specs.Figures.{listed};
 ghost use Rattle.walk.specs.Walk.{walkOf};
-ghost use Rattle.grid.specs.Search.{Served, Variances, centredFit, deviationOf, fitOf, inForce, isCentred, looked, meanOf, plainFit, searchTo};
+ghost use Rattle.grid.specs.Search.{Means, Served, Variances, centredFit, deviationOf, fitOf, inForce, isCentred, looked, meanOf, plainFit, searchTo};
 use crate::Best;
 use crate::Epsilon;
 use crate::refusals;
 use crate::rows;
+use moments::Five;
 use walk::M2N;
 
 // The state, the smallest error of a row so far, and the row that has it.
@@ -66,18 +68,32 @@ fn look(s: Search, m: M2N) -> Search
     }
 }
 
-// The sigma_2^2 of the first step of each of k rows, after the first `from`. Nothing branches here, so
-// that rows are worked out side by side.
-fn variances(m: M2N, deviation: f64, weights: &[f64], from: usize, k: usize) -> [f64; 256]
-    requires { ⌜ (k ≤ 256) × (from + k ≤ 131072) × (from + k ≤ length (now weights)) ⌝ }
-    ensures { λ r. ⌜ Variances m deviation (now (weights .entry)) from k r ⌝ }
+// The starting means of the k rows after the first `from`.
+fn means(m: M2N, deviation: f64, from: usize, k: usize) -> [f64; 256]
+    requires { ⌜ (k ≤ 256) × (from + k ≤ 131072) ⌝ }
+    ensures { λ r. ⌜ Means m deviation from k r ⌝ }
 {
-    let a = walk::first_five(m);
-    let mut v = [0.0f64; 256];
+    let mut u = [0.0f64; 256];
     let mut j = 0;
     while j < k {
         let i = from + j;
-        v[j] = step::sigma_2_squared(a, mean_of(m, deviation, i + 1), weights[i]);
+        u[j] = mean_of(m, deviation, i + 1);
+        j += 1;
+    }
+    u
+}
+
+// The sigma_2^2 of the first step from each of these means, with the weights after the first `from`.
+// Nothing branches here, and the means are there already, so that the processor has many rows in hand.
+fn variances(a: Five, u: [f64; 256], weights: &[f64], from: usize, k: usize) -> [f64; 256]
+    requires { ⌜ (k ≤ 256) × (from + k ≤ length (now weights)) ⌝ }
+    ensures { λ r. ⌜ Variances (listed a) u (now (weights .entry)) from k r ⌝ }
+{
+    let mut v = u;
+    let mut j = 0;
+    while j < k {
+        let i = from + j;
+        v[j] = step::sigma_2_squared(a, v[j], weights[i]);
         j += 1;
     }
     v
@@ -99,7 +115,8 @@ fn walk_block(s: Search, m: M2N, deviation: f64, weights: &[f64], from: usize, k
     requires { ⌜ (s ≡ searchTo m deviation (now weights) from) × (k ≤ 256) × (from + k ≤ 131072) × (from + k ≤ length (now weights)) ⌝ }
     ensures { λ r. ⌜ r ≡ searchTo m deviation (now (weights .entry)) (from + k) ⌝ }
 {
-    let v = variances(m, deviation, weights, from, k);
+    let u = means(m, deviation, from, k);
+    let v = variances(walk::first_five(m), u, weights, from, k);
     let mut t = s;
     let mut j = 0;
     while j < k {

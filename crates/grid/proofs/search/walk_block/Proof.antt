@@ -16,11 +16,17 @@ Inv-loop m deviation weights from k v t₀ j₀ t j = (j ≤ k) × (t ≡ search
 abbrev μ-loop : tie.MeasureT-loop
 μ-loop m deviation weights from k v t₀ j₀ t j = k - j
 
+means-requires : tie.Need-means-requires Inv-loop μ-loop
+means-requires c κs = search needs
+
+first-five-requires : tie.Need-first-five-requires Inv-loop μ-loop
+first-five-requires c κs = search needs
+
 variances-requires : tie.Need-variances-requires Inv-loop μ-loop
 variances-requires c κs = search needs
 
 loop-holds : tie.Need-loop-holds Inv-loop μ-loop
-loop-holds c = (omega arith, c .before .before .pre .0 ∙ ap (searchTo _ _ _) (plus-none _))
+loop-holds c = (omega arith, c .before .before .before .before .pre .0 ∙ ap (searchTo _ _ _) (plus-none _))
 
 add-i : tie.Need-add-i Inv-loop μ-loop
 add-i c = omega arith
@@ -41,8 +47,9 @@ loop-again : tie.Need-loop-again Inv-loop μ-loop
 unfolding ofBits
 loop-again c =
     let l = c .before .before in
-    let h : l .loop .j < l .before .before .before .args .k = omega arith in
-    (omega arith, row-passed _ _ _ _ _ _ (l .loop .inv .1) (l .before .variances .ensures (l .loop .j) h) (c .if1 .taken) ∙ ap (searchTo _ _ _) (plus-one _ _))
+    let b = l .before in
+    let h : l .loop .j < b .before .before .before .before .args .k = omega arith in
+    (omega arith, row-passed _ _ _ _ _ _ _ _ (l .loop .inv .1) (b .before .first-five .ensures) (b .before .before .means .ensures (l .loop .j) h) (b .variances .ensures (l .loop .j) h) (c .if1 .taken) ∙ ap (searchTo _ _ _) (plus-one _ _))
 
 add-mean-of : tie.Need-add-mean-of Inv-loop μ-loop
 add-mean-of c = omega arith
@@ -69,7 +76,7 @@ loop-again-2 c =
 
 returns : tie.Need-returns Inv-loop μ-loop
 returns c =
-    let a = c .before .before .before .before .args in
+    let a = c .before .before .before .before .before .before .args in
     let e : a .from + c .before .loop .j ≡ a .from + a .k = omega arith in
     c .before .loop .inv .1 ∙ ap (searchTo _ _ _) e
 
@@ -79,6 +86,8 @@ walk-block-spec =
     (tie.spec
     Inv-loop
     μ-loop
+    means-requires
+    first-five-requires
     variances-requires
     loop-holds
     add-i
