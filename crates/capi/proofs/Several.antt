@@ -7,12 +7,12 @@ use lib.ListN.{length}
 use lib.Ieee.{Float}
 use borrow.Author.Tests.{lt-ltb, le-ltb}
 use Rattle.walk.specs.declared.M2N.{M2N}
-use Rattle.grid.proofs.Flats.{length-flat-64}
-use Rattle.grid.proofs.Running.{few-rows}
-use Rattle.grid.specs.Refusals.{runsRefusal}
-use Rattle.grid.specs.Runs.{filledBy, flatFit, mpFit, runRows}
-use Rattle.grid.specs.declared.Filled.the-variants.{Unfilled, Rows}
-use Rattle.grid.specs.declared.Flat.{Flat}
+use Rattle.fit_runs.proofs.Flats.{length-flat-64}
+use Rattle.fit_runs.proofs.Running.{few-rows}
+use Rattle.fit_refusals.specs.Refusals.{runsRefusal}
+use Rattle.fit_runs.specs.Runs.{filledBy, flatFit, mpFit, runRows}
+use Rattle.fit_runs.specs.declared.Filled.the-variants.{Unfilled, Rows}
+use Rattle.fit_runs.specs.declared.Flat.{Flat}
 use Rattle.capi.specs.Fits.{MpFitLeaves, Roomy, filledOf, ran}
 use Rattle.capi_states.specs.States.{stateOf}
 

@@ -7,17 +7,17 @@ use lib.Dec.{ltb}
 use lib.ListN.{length, take, drop, set}
 use lib.Ieee.{Float}
 use Rattle.walk.specs.declared.M2N.{M2N}
-use Rattle.grid.specs.Runs.{flatFit}
+use Rattle.fit_runs.specs.Runs.{flatFit}
 use Rattle.grid.specs.Search.{singleFit}
 use Rattle.grid.specs.declared.Best.{Best}
 use Rattle.grid.specs.declared.Best.the-variants.{Nothing, Row}
 use Rattle.grid.specs.declared.Epsilon.{Epsilon}
 use Rattle.grid.specs.declared.Epsilon.the-variants.{Override, Own}
-use Rattle.grid.specs.declared.Filled.{Filled}
-use Rattle.grid.specs.declared.Filled.the-variants.{Unfilled, Rows}
+use Rattle.fit_runs.specs.declared.Filled.{Filled}
+use Rattle.fit_runs.specs.declared.Filled.the-variants.{Unfilled, Rows}
 use Rattle.grid.specs.declared.FitResultRow.{FitResultRow}
 use Rattle.grid.specs.declared.Fitted.{Fitted}
-use Rattle.grid.specs.declared.Flat.{Flat}
+use Rattle.fit_runs.specs.declared.Flat.{Flat}
 use Rattle.grid.specs.declared.Outcome.{Outcome}
 use Rattle.grid.specs.declared.Outcome.the-variants.{Refused, Ended}
 use Rattle.capi_states.specs.States.{stateOf, withState}

@@ -4,11 +4,11 @@ ghost use mathlib.Core.List.{_++_};
 ghost use Prim.Native.Nat.{_≤_};
 ghost use lib.ListN.{drop, length, take};
 ghost use Rattle.capi.specs.Fits.{MpFitLeaves, Roomy, SingleFitLeaves, filledOf, fitted, howMany, numberOf, outcomeOf, overrideOf, ran, refusalOf, withBest, withRow};
+use fit_runs::Filled;
+use fit_runs::Flat;
 use grid::Best;
 use grid::Epsilon;
-use grid::Filled;
 use grid::FitResultRow;
-use grid::Flat;
 use grid::Outcome;
 use walk::M2N;
 
@@ -164,6 +164,6 @@ pub extern "C" fn woddirme_mp_fit(
     }
     let m = capi_states::state_of(moments, variant, factor, max_iter, n_runs, fit);
     let places = rows.len() / 6;
-    let f = grid::mp_fit_flat(m, weights, places);
+    let f = fit_runs::mp_fit_flat(m, weights, places);
     leave_rows(f, rows, count)
 }

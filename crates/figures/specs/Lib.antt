@@ -1,3 +1,4 @@
 pub mod Figures
+pub mod Grids
 pub mod LimitPrices
 pub mod Walks

@@ -7,10 +7,10 @@ use crate::words::Head;
 use crate::words::Limits;
 use crate::words::Settings;
 use crate::words::Tail;
-use ef3m::Runs;
-use grid::Filled;
+use ef3m_runs::Runs;
+use fit_runs::Filled;
+use fit_runs::Flat;
 use grid::FitResultRow;
-use grid::Flat;
 use replies::Reply;
 use text::Number;
 use walk::M2N;
@@ -98,11 +98,11 @@ fn rows_reply(n: usize) -> Reply
 }
 
 fn lent(m: M2N, xs: &[f64], n: usize) -> Runs {
-    ef3m::mp_fit_through(m, words::weights_in(xs, n), [words::no_row(); 64])
+    ef3m_runs::mp_fit_through(m, words::weights_in(xs, n), [words::no_row(); 64])
 }
 
 fn flat(m: M2N, xs: &[f64], n: usize, places: usize) -> Flat {
-    grid::mp_fit_flat(m, words::weights_in(xs, n), places)
+    fit_runs::mp_fit_flat(m, words::weights_in(xs, n), places)
 }
 
 // Room for 64 rows is room enough, and then they are lent.

@@ -8,7 +8,7 @@ use lib.ListN.{getD}
 use lib.Ieee.{Float, nan}
 use Rattle.walk.specs.Walk.{walkOf}
 use Rattle.walk.specs.declared.M2N.{M2N}
-use Rattle.grid.specs.Refusals.{rowsOf, gridRefusal}
+use Rattle.fit_refusals.specs.Refusals.{rowsOf, gridRefusal}
 use Rattle.grid.specs.Rows.{begun, centredState, movedState, movedBest}
 use Rattle.grid.specs.Search.{inForce, deviationOf, meanOf, looked, searchTo, foundBy, plainFit, centredFit, fitOf, answered, singleFit}
 use Rattle.grid.specs.declared.Best.{Best}

@@ -1,5 +1,2 @@
-pub mod Figures
-pub mod Refusals
 pub mod Rows
 pub mod Search
-pub mod Runs

@@ -13,7 +13,7 @@ use Rattle.moments.specs.Orders.{centredSum}
 use Rattle.step.specs.Steps.{sigma2Squared}
 use Rattle.walk.specs.Walk.{walkOf}
 use Rattle.walk.specs.declared.M2N.{M2N}
-use Rattle.grid.specs.Refusals.{rowsOf, gridRefusal}
+use Rattle.fit_refusals.specs.Refusals.{rowsOf, gridRefusal}
 use Rattle.grid.specs.Rows.{rowOf, begun, centredState, movedState, movedBest}
 use Rattle.grid.specs.declared.Best.the-variants.{Row, Nothing}
 use Rattle.grid.specs.declared.Epsilon.{Epsilon}

@@ -1,15 +1,10 @@
-// The search over a grid of starting means, and several such searches: by value, rows as flat numbers.
+// One search over a grid of starting means, by value.
 ghost use mathlib.Core.Path.{_≡_};
-ghost use Rattle.grid.specs.Runs.{flatFit};
 ghost use Rattle.grid.specs.Search.{singleFit};
 use walk::M2N;
 
-pub mod refusals; // refusals.rt: what is turned away
 pub mod rows; // rows.rt: a row, and how the best fit becomes one
-pub mod runs; // runs.rt: several runs
-pub mod search; // search.rt: one search
-
-pub use refusals::rows_of;
+pub mod search; // search.rt: a search that is not refused
 
 // One fitted mixture.
 pub struct FitResultRow {
@@ -45,25 +40,12 @@ pub struct Fitted {
     pub outcome: Outcome,
 }
 
-// Why no run was done, or how many rows there are.
-pub enum Filled {
-    Unfilled(u64),
-    Rows(usize),
-}
-
-// The rows of several runs as flat numbers, six each, zeros behind them.
-pub struct Flat {
-    pub numbers: [f64; 384],
-    pub count: usize,
-    pub outcome: Filled,
-}
-
 // One search: the Rust's single_fit_loop, with starting weights from a lent list in place of draws.
 pub fn single_fit_loop(m: M2N, e: Epsilon, weights: &[f64]) -> Fitted
     ensures { λ r. ⌜ r ≡ singleFit m e (now (weights .entry)) ⌝ }
 {
     let epsilon = search::in_force(m, e);
-    let n = refusals::grid(m, epsilon, 1, weights);
+    let n = fit_refusals::of_grid(m, epsilon, weights);
     if n != 0 {
         return Fitted {
             state: m,
@@ -77,20 +59,4 @@ pub fn single_fit_loop(m: M2N, e: Epsilon, weights: &[f64]) -> Fitted
         state: state,
         outcome: Outcome::Ended(best),
     }
-}
-
-// Several runs, each from a copy of the state and with the next weights: the Rust's mp_fit. `places`
-// is how many rows the caller has room for.
-pub fn mp_fit_flat(m: M2N, weights: &[f64], places: usize) -> Flat
-    ensures { λ r. ⌜ r ≡ flatFit m (now (weights .entry)) places ⌝ }
-{
-    let n = refusals::runs(m, weights, places);
-    if n != 0 {
-        return Flat {
-            numbers: [0.0f64; 384],
-            count: 0,
-            outcome: Filled::Unfilled(n),
-        };
-    }
-    runs::all(m, weights)
 }

@@ -7,7 +7,6 @@ ghost use Rattle.walk.specs.Walk.{walkOf};
 ghost use Rattle.grid.specs.Search.{Means, Served, Variances, centredFit, deviationOf, fitOf, inForce, isCentred, looked, meanOf, plainFit, searchTo};
 use crate::Best;
 use crate::Epsilon;
-use crate::refusals;
 use crate::rows;
 use moments::Five;
 use walk::M2N;
@@ -162,7 +161,7 @@ fn plain_fit(m: M2N, epsilon: f64, weights: &[f64]) -> Searched
     requires { ⌜ Served m epsilon (now weights) ⌝ }
     ensures { λ r. ⌜ r ≡ plainFit m epsilon (now (weights .entry)) ⌝ }
 {
-    let n = refusals::rows_of(epsilon);
+    let n = fit_refusals::rows_of(epsilon);
     let s = walk_rows(rows::begin(m, epsilon), deviation(m), weights, n);
     let state = s.state;
     let best = s.best;
