@@ -3,6 +3,7 @@ use Prim.Native.Nat.{ℕ, zero, suc, _-_, _^_}
 use mathlib.Core.Bool.{Bool, true, false}
 use mathlib.Core.List.{List, [], _∷_}
 use lib.Ieee.{Float, nan}
+use lib.IntN.{ℤ}
 use lib.ListN.{drop, getD, length}
 use lib.Seq.{sets}
 use Rattle.moments.specs.declared.Five.{Five}
@@ -68,13 +69,23 @@ module _ {A : Type 0} where
   abbrev pub listIn : (List ℕ → Got A) → List A → List ℕ → List A
   listIn form old s = inFront (orNone (nextNatural (2 ^ 64 - 1) s) (valuesOf form)) old
 
--- n fractions, with their values
-abbrev pub fractions : ℕ → List ℕ → Got (List Float)
-fractions n s = entries n s ▷ (λ u t. got (valuesOf nextFraction n s) t)
+module _ {A : Type 0} where
+  -- n of a form, with their values
+  abbrev pub many : (List ℕ → Got A) → ℕ → List ℕ → Got (List A)
+  many form n s = entriesOf form n s ▷ (λ u t. got (valuesOf form n s) t)
 
--- how many, and then so many fractions
+  -- how many, and then so many of a form, with their values
+  abbrev pub aList : (List ℕ → Got A) → List ℕ → Got (List A)
+  aList form s = nextNatural (2 ^ 64 - 1) s ▷ many form
+
+abbrev pub fractions : ℕ → List ℕ → Got (List Float)
+fractions n s = many nextFraction n s
+
 abbrev pub fractionList : List ℕ → Got (List Float)
-fractionList s = nextNatural (2 ^ 64 - 1) s ▷ fractions
+fractionList s = aList nextFraction s
+
+abbrev pub instantList : List ℕ → Got (List ℤ)
+instantList s = aList nextInstant s
 
 -- a state: eleven fractions
 abbrev pub nextState : List ℕ → Got (List Float)

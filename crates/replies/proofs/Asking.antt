@@ -1,18 +1,38 @@
--- How a request is read: whether its line begins with a name, and whether nothing follows its words. By cases on what was read. Assumes nothing.
+-- How a request is read: which name its line begins with, what its words are, and whether nothing follows them. By cases on what was read. Assumes nothing.
 use Prim.Native.Nat.{ℕ, _≤_, _<_}
 use mathlib.Core.Path.{_≡_, refl, sym, _∙_, ap}
 use mathlib.Core.Bool.{Bool, true, false, not, cond}
 use mathlib.Core.List.{List, [], _∷_}
-use borrow.Author.Tests.{not-true, not-false}
+use borrow.Author.Tests.{eqb-true, not-true, not-false}
+use lib.Dec.{eqb}
 use lib.Ieee.{Float, binary64, ofBits}
 use lib.ListN.{length, drop, drop-of-length-le, replicate, length-replicate}
 use lib.Seq.{drop-cons}
-use Rattle.text.specs.Decode.{Got, got, bad, _▷_}
-use Rattle.protocol.specs.Words.{nextFraction}
+use Rattle.text.specs.Decode.{Got, got, bad, _▷_, word}
+use Rattle.protocol.specs.Words.{isGot, nextFraction}
 use Rattle.protocol_lists.specs.Lists.{entries, fractions, fractionsIn, isRest, valuesOf}
 use Rattle.protocol_lists.proofs.Reading.{all-fractions}
-use Rattle.replies.specs.Requests.{only}
+use Rattle.replies.specs.Requests.{onlyOr, only}
 use Rattle.replies.specs.declared.forms.Reply as reply
+
+-- ---- which name a line begins with, as protocol::begins answers b: r is what comes of the words (x), or of the names after it (y)
+module _ {A : Type 0} {b t : Bool} {r : A} where
+  pub named-yes : {x : A} (y : A) → b ≡ t → b ≡ true → r ≡ x → r ≡ cond t x y
+  named-yes y e h is = rw (sym e ∙ h) is
+
+  pub named-no : {y : A} (x : A) → b ≡ t → b ≡ false → r ≡ y → r ≡ cond t x y
+  named-no x e h is = rw (sym e ∙ h) is
+
+-- a line that begins with a name begins with none of another first letter
+module _ (c d : ℕ) (w v : List ℕ) where
+  by-letter : (b : ℕ) (s : List ℕ) (is : Bool) → eqb b c ≡ is → true ≡ isGot (cond is (word w s) bad) → eqb c d ≡ false → eqb b d ≡ false
+  by-letter b s true e h o = let same : b ≡ c = eqb-true b c e in rw same o
+  by-letter b s false e h o = cc
+
+  pub other-name : (s : List ℕ) {b : Bool} → b ≡ isGot (word (c ∷ w) s) → b ≡ true → eqb c d ≡ false → false ≡ isGot (word (d ∷ v) s)
+  unfolding word
+  other-name [] e h o = refl
+  other-name (b ∷ s) e h o = rw (by-letter b s (eqb b c) refl (sym h ∙ e) o)
 
 -- ---- words that are n fractions and the rest of the line, as protocol_lists::read_rest reads them into a new list, v after it, and answers r
 module _ (n : ℕ) (s : List ℕ) (f : List Float → reply.Reply) where
@@ -39,18 +59,10 @@ module _ (n : ℕ) (s : List ℕ) (f : List Float → reply.Reply) where
   pub rest-no : (r : Bool) → r ≡ isRest (entries n s) → not r ≡ true → reply.the-variants.Bad ≡ asked
   rest-no r is h = not-rest (entries n s) (sym (not-true r h) ∙ is)
 
--- ---- words that end at a place k: what is left of the line must be nothing
-module _ (r : reply.Reply) (s : List ℕ) (k : ℕ) where
-  pub ended : length s ≤ k → r ≡ only (got r (drop k s))
+-- ---- words that end at a place k, where nothing must be left
+module _ {A : Type 0} (other a : A) (s : List ℕ) (k : ℕ) where
+  pub ended : length s ≤ k → a ≡ onlyOr other (got a (drop k s))
   ended h = rw (drop-of-length-le s)
 
-  pub not-ended : k < length s → reply.the-variants.Bad ≡ only (got r (drop k s))
+  pub not-ended : k < length s → other ≡ onlyOr other (got a (drop k s))
   not-ended h = rw (drop-cons s k 0)
-
--- ---- which name a line begins with, as protocol::begins answers b: the reply r is that of the words (x), or that of the names after it (y)
-module _ {A : Type 0} {b t : Bool} {r : A} where
-  pub named-yes : {x : A} (y : A) → b ≡ t → b ≡ true → r ≡ x → r ≡ cond t x y
-  named-yes y e h is = rw (sym e ∙ h) is
-
-  pub named-no : {y : A} (x : A) → b ≡ t → b ≡ false → r ≡ y → r ≡ cond t x y
-  named-no x e h is = rw (sym e ∙ h) is

@@ -14,16 +14,25 @@ module _ {A B : Type 0} where
   abbrev pub _>>=_ : (List ℕ → Got A) → (A → List ℕ → Got B) → List ℕ → Got B
   _>>=_ form more s = form s ▷ more
 
--- what the words come to
-abbrev pub reply : replies.Reply → List ℕ → Got replies.Reply
-reply r s = got r s
+module _ {A : Type 0} where
+  -- what the words come to
+  abbrev pub reply : A → List ℕ → Got A
+  reply a s = got a s
 
--- the reply, where nothing follows the words; otherwise the line is no request
+  -- that, where nothing follows the words; otherwise `other`
+  abbrev pub onlyOr : A → Got A → A
+  onlyOr other (got a []) = a
+  onlyOr other (got a (b ∷ s)) = other
+  onlyOr other bad = other
+
+  -- what comes of the bytes after a name, where a line begins with it and a blank; otherwise `other`
+  abbrev pub after : String → (List ℕ → A) → List ℕ → A → A
+  after name rest s other = cond (isGot (word (bytes name ++ bytes " ") s)) (rest (drop (length (bytes name)) s)) other
+
+-- the reply by the words: a line in which something follows them, or one is not of its form, is no request
 abbrev pub only : Got replies.Reply → replies.Reply
-only (got r []) = r
-only (got r (b ∷ s)) = replies.the-variants.Bad
-only bad = replies.the-variants.Bad
+only g = onlyOr replies.the-variants.Bad g
 
 -- the reply to a line that begins with a name and a blank, by the words after the name; to any other line, `other`
 abbrev pub named : String → (List ℕ → Got replies.Reply) → List ℕ → replies.Reply → replies.Reply
-named name words s other = cond (isGot (word (bytes name ++ bytes " ") s)) (only (words (drop (length (bytes name)) s))) other
+named name words s other = after name (λ t. only (words t)) s other

@@ -21,7 +21,7 @@ returns c = rw (c .before .before .read-next-instant .ensures, c .enum-told .giv
 returns-2 : tie.Need-returns-2
 returns-2 c =
     let d = c .before .before in
-    rw (d .before .before .read-next-instant .ensures, d .n .given .1) (not-ended _ _ _ (c .if1 .taken))
+    rw (d .before .before .read-next-instant .ensures, d .n .given .1) (not-ended _ _ _ _ (c .if1 .taken))
 
 i64-as-f64-requires : tie.Need-i64-as-f64-requires
 i64-as-f64-requires c κs = search needs
@@ -29,7 +29,7 @@ i64-as-f64-requires c κs = search needs
 returns-3 : tie.Need-returns-3
 returns-3 c =
     let d = c .before .before .before in
-    rw (d .before .before .read-next-instant .ensures, d .n .given .1, c .i64-as-f64 .ensures, toZ-ofZ w64 (d .n .given .0 .0) (record { sfits = c .before .before .known-told .given .0 .1 })) (ended _ _ _ (c .before .if1 .left))
+    rw (d .before .before .read-next-instant .ensures, d .n .given .1, c .i64-as-f64 .ensures, toZ-ofZ w64 (d .n .given .0 .0) (record { sfits = c .before .before .known-told .given .0 .1 })) (ended _ _ _ _ (c .before .if1 .left))
 
 pub i64-as-f64-spec : {M : Type 1} → statement M
 i64-as-f64-spec =

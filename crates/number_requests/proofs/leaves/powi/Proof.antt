@@ -34,7 +34,7 @@ returns-3 : tie.Need-returns-3
 returns-3 c =
     let n = c .before .before in
     let x = n .before .before .before .before in
-    rw (x .before .before .read-next-fraction .ensures, x .x .given .1, n .before .before .read-next-natural .ensures, n .n .given .1) (not-ended _ _ _ (c .if1 .taken))
+    rw (x .before .before .read-next-fraction .ensures, x .x .given .1, n .before .before .read-next-natural .ensures, n .n .given .1) (not-ended _ _ _ _ (c .if1 .taken))
 
 powi-requires : tie.Need-powi-requires
 powi-requires c κs = search needs
@@ -43,7 +43,7 @@ returns-4 : tie.Need-returns-4
 returns-4 c =
     let n = c .before .before .before in
     let x = n .before .before .before .before in
-    rw (x .before .before .read-next-fraction .ensures, x .x .given .1, n .before .before .read-next-natural .ensures, n .n .given .1, c .powi .ensures) (ended _ _ _ (c .before .if1 .left))
+    rw (x .before .before .read-next-fraction .ensures, x .x .given .1, n .before .before .read-next-natural .ensures, n .n .given .1, c .powi .ensures) (ended _ _ _ _ (c .before .if1 .left))
 
 pub powi-spec : {M : Type 1} → statement M
 powi-spec =
