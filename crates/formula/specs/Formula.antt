@@ -67,3 +67,10 @@ unfolding stops
 run [] g v = admitted v
 run ((x ≔ a) ∷ p) g v = run p g (v ++ (eval g v a ∷ []))
 run (fail t ∷ p) g v = cond (stops g v t) inadmissible (run p g v)
+
+-- the variables' values with every test passed over
+unfoldable pub untested : List Stmt → List Float → List Float → List Float
+unfolding eval
+untested [] g v = v
+untested ((x ≔ a) ∷ p) g v = untested p g (v ++ (eval g v a ∷ []))
+untested (fail t ∷ p) g v = untested p g v

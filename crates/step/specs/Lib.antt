@@ -1,3 +1,4 @@
 pub mod Constants
+pub mod Parts
 pub mod Steps
 pub mod Weight

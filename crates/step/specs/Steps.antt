@@ -1,10 +1,10 @@
 -- The two steps of the fit, from López de Prado and Foreman (2014), as programs of formulas, each beside the Rust's iter_4 and iter_5, line by line. Definitions only.
-use mathlib.Core.List.{List, [], _∷_}
+use mathlib.Core.List.{List, [], _∷_, _++_}
 use Prim.Native.Nat.{ℕ}
 use lib.ListN.{getD}
 use lib.Ieee.{Float, nan}
 use Rattle.float.specs.Constants as constants
-use Rattle.formula.specs.Formula.{Expr, given, var, const, _⊕_, _⊖_, _⊗_, _⊘_, _↑_, √_, Test, isZero, isNegative, notFinite, outsideUnit, isBelow, Stmt, _≔_, fail, Outcome, admitted, inadmissible, eval, run}
+use Rattle.formula.specs.Formula.{Expr, given, var, const, _⊕_, _⊖_, _⊗_, _⊘_, _↑_, √_, Test, isZero, isNegative, notFinite, outsideUnit, isBelow, Stmt, _≔_, fail, Outcome, admitted, inadmissible, eval, run, untested}
 use Rattle.moments.specs.Constants as numbers
 use Rattle.moments.specs.declared.Params.{Params}
 use Rattle.step.specs.Constants as steps
@@ -56,10 +56,10 @@ m₅ = given 6
 abbrev pub μ₁ : Expr
 μ₁ = var 0
 
-abbrev den₂₄ : Expr
+abbrev pub den₂₄ : Expr
 den₂₄ = var 1
 
-abbrev σ₂² : Expr
+abbrev pub σ₂² : Expr
 σ₂² = var 2
 
 abbrev pub σ₂ : Expr
@@ -100,8 +100,9 @@ b₂ = var 11
 abbrev pub p₁″ : Expr
 p₁″ = var 12
 
-unfoldable pub iter-4 : List Stmt
-iter-4 =
+-- what both steps begin with: mu_1 and the two deviations
+unfoldable pub curves : List Stmt
+curves =
     μ₁ ≔ (m₁ ⊖ (𝟏 ⊖ p₁) ⊗ μ₂) ⊘ p₁
     ∷ den₂₄ ≔ 𝟑 ⊗ (𝟏 ⊖ p₁) ⊗ (μ₂ ⊖ μ₁)
     ∷ fail (isZero den₂₄)
@@ -111,24 +112,27 @@ iter-4 =
     ∷ σ₁² ≔ (m₂ ⊖ σ₂ ↑ 2 ⊖ μ₂ ↑ 2) ⊘ p₁ ⊕ σ₂ ↑ 2 ⊕ μ₂ ↑ 2 ⊖ μ₁ ↑ 2
     ∷ fail (isNegative σ₁²)
     ∷ σ₁ ≔ √ σ₁²
-    ∷ deno ≔ 𝟑 ⊗ (σ₁ ↑ 4 ⊖ σ₂ ↑ 4) ⊕ 𝟔 ⊗ (σ₁ ↑ 2 ⊗ μ₁ ↑ 2 ⊖ σ₂ ↑ 2 ⊗ μ₂ ↑ 2) ⊕ μ₁ ↑ 4 ⊖ μ₂ ↑ 4
+    ∷ []
+
+unfoldable pub iter-4 : List Stmt
+unfolding curves
+iter-4 =
+    curves
+    ++ deno ≔ 𝟑 ⊗ (σ₁ ↑ 4 ⊖ σ₂ ↑ 4) ⊕ 𝟔 ⊗ (σ₁ ↑ 2 ⊗ μ₁ ↑ 2 ⊖ σ₂ ↑ 2 ⊗ μ₂ ↑ 2) ⊕ μ₁ ↑ 4 ⊖ μ₂ ↑ 4
     ∷ fail (isZero deno)
     ∷ p₁′ ≔ (m₄ ⊖ 𝟑 ⊗ σ₂ ↑ 4 ⊖ 𝟔 ⊗ σ₂ ↑ 2 ⊗ μ₂ ↑ 2 ⊖ μ₂ ↑ 4) ⊘ deno
     ∷ fail (outsideUnit p₁′)
     ∷ []
 
+-- the fifth moment of a curve
+abbrev pub fifth : Expr → Expr → Expr
+fifth μ σ = 𝟏𝟓 ⊗ σ ↑ 4 ⊗ μ ⊕ 𝟏𝟎 ⊗ σ ↑ 2 ⊗ μ ↑ 3 ⊕ μ ↑ 5
+
 unfoldable pub iter-5 : List Stmt
+unfolding curves
 iter-5 =
-    μ₁ ≔ (m₁ ⊖ (𝟏 ⊖ p₁) ⊗ μ₂) ⊘ p₁
-    ∷ den₂₄ ≔ 𝟑 ⊗ (𝟏 ⊖ p₁) ⊗ (μ₂ ⊖ μ₁)
-    ∷ fail (isZero den₂₄)
-    ∷ σ₂² ≔ (m₃ ⊕ 𝟐 ⊗ p₁ ⊗ μ₁ ↑ 3 ⊕ (p₁ ⊖ 𝟏) ⊗ μ₂ ↑ 3 ⊖ 𝟑 ⊗ μ₁ ⊗ (m₂ ⊕ μ₂ ↑ 2 ⊗ (p₁ ⊖ 𝟏))) ⊘ den₂₄
-    ∷ fail (isNegative σ₂²)
-    ∷ σ₂ ≔ √ σ₂²
-    ∷ σ₁² ≔ (m₂ ⊖ σ₂ ↑ 2 ⊖ μ₂ ↑ 2) ⊘ p₁ ⊕ σ₂ ↑ 2 ⊕ μ₂ ↑ 2 ⊖ μ₁ ↑ 2
-    ∷ fail (isNegative σ₁²)
-    ∷ σ₁ ≔ √ σ₁²
-    ∷ fail (isBelow (𝟏 ⊖ p₁) steps.tenThousandth)
+    curves
+    ++ fail (isBelow (𝟏 ⊖ p₁) steps.tenThousandth)
     ∷ a₁² ≔ 𝟔 ⊗ σ₂ ↑ 4 ⊕ (m₄ ⊖ p₁ ⊗ (𝟑 ⊗ σ₁ ↑ 4 ⊕ 𝟔 ⊗ σ₁ ↑ 2 ⊗ μ₁ ↑ 2 ⊕ μ₁ ↑ 4)) ⊘ (𝟏 ⊖ p₁)
     ∷ fail (isNegative a₁²)
     ∷ a₁ ≔ √ a₁²
@@ -136,21 +140,17 @@ iter-5 =
     ∷ fail (notFinite μ₂²)
     ∷ fail (isNegative μ₂²)
     ∷ μ₂′ ≔ √ μ₂²
-    ∷ a₂ ≔ 𝟏𝟓 ⊗ σ₁ ↑ 4 ⊗ μ₁ ⊕ 𝟏𝟎 ⊗ σ₁ ↑ 2 ⊗ μ₁ ↑ 3 ⊕ μ₁ ↑ 5
-    ∷ b₂ ≔ 𝟏𝟓 ⊗ σ₂ ↑ 4 ⊗ μ₂′ ⊕ 𝟏𝟎 ⊗ σ₂ ↑ 2 ⊗ μ₂′ ↑ 3 ⊕ μ₂′ ↑ 5
+    ∷ a₂ ≔ fifth μ₁ σ₁
+    ∷ b₂ ≔ fifth μ₂′ σ₂
     ∷ fail (isZero (a₂ ⊖ b₂))
     ∷ p₁″ ≔ (m₅ ⊖ b₂) ⊘ (a₂ ⊖ b₂)
     ∷ fail (outsideUnit p₁″)
     ∷ []
 
--- the third variable of both programs, σ₂², without the tests before it
+-- the value of σ₂², whatever the tests before it say
 unfoldable pub sigma2Squared : List Float → Float → Float → Float
-unfolding eval
-sigma2Squared ms μ p =
-    let g = μ ∷ p ∷ ms in
-    let a = eval g [] ((m₁ ⊖ (𝟏 ⊖ p₁) ⊗ μ₂) ⊘ p₁) in
-    let b = eval g (a ∷ []) (𝟑 ⊗ (𝟏 ⊖ p₁) ⊗ (μ₂ ⊖ μ₁)) in
-    eval g (a ∷ b ∷ []) ((m₃ ⊕ 𝟐 ⊗ p₁ ⊗ μ₁ ↑ 3 ⊕ (p₁ ⊖ 𝟏) ⊗ μ₂ ↑ 3 ⊖ 𝟑 ⊗ μ₁ ⊗ (m₂ ⊕ μ₂ ↑ 2 ⊗ (p₁ ⊖ 𝟏))) ⊘ den₂₄)
+unfolding untested curves
+sigma2Squared ms μ p = eval (μ ∷ p ∷ ms) (untested curves (μ ∷ p ∷ ms) []) σ₂²
 
 -- the step that the formulas for mu_1, mu_2, sigma_1, sigma_2 and the new p_1 answer, from the inputs and a run's outcome
 abbrev pub answer : (a b c d e : Expr) → List Float → Outcome → Step

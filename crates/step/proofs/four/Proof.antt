@@ -1,95 +1,43 @@
--- `step::four` meets its contract: each way through the code is a run of the program (`Runs` of the crate formula). Assumes nothing.
-use mathlib.Core.Path.{refl}
+-- `step::four` meets its contract: each way through the code is a run of the program, its first half by what `curves_from` ensures. Assumes nothing.
+use mathlib.Core.Path.{refl, _∙_}
 use lib.Ieee.{ofBits}
 use borrow.Author.Needs.{needs}
-use Rattle.formula.specs.Formula.{eval, stops, admitted, inadmissible}
-use Rattle.step.specs.Steps.{iter-4}
 use Rattle.float.specs.Power.{powerOf}
-use Rattle.formula.proofs.Runs.{done, then, stop, pass, within, low, high}
-use Rattle.step.proofs.StepRuns.{step-runs-4}
+use Rattle.formula.specs.Formula.{eval, stops}
+use Rattle.formula.proofs.Runs.{done, then, stop, pass}
+use Rattle.step.proofs.StepRuns.{kind-4, between-4, ran, not-ran, stopped, stopped-later, weighs, is-4}
 use Rattle.step.proofs.four.Statement.{statement}
 use Rattle.step.proofs.four.Tie as tie
 
+curves-from-requires : tie.Need-curves-from-requires
+curves-from-requires c κs = search needs
+
+enum-known-mu-1 : tie.Need-enum-known-mu-1
+enum-known-mu-1 c = search needs
+
+enum-told : tie.Need-enum-told
+enum-told c = search needs
+
 returns : tie.Need-returns
-unfolding iter-4 stops eval ofBits powerOf
-returns c = step-runs-4 _ _ _ inadmissible (then _ refl (then _ refl (stop (c .if1 .taken))))
+returns c = stopped kind-4 _ (not-ran _ (c .before .before .curves-from .ensures _) (c .enum-told .given .1)) ∙ is-4 _ _ _
 
 returns-2 : tie.Need-returns-2
-unfolding iter-4 stops eval ofBits powerOf
+unfolding between-4 stops eval ofBits powerOf
 returns-2 c =
-    step-runs-4 _ _ _ inadmissible
-    (then _ refl (then _ refl (pass (c .before .before .before .if1 .left)
-    (then _ refl (stop (c .if2 .taken))))))
+    let found = c .before .before in
+    let first = ran (found .before .before .curves-from .ensures _) (found .mu-1 .given .1) in
+    stopped-later kind-4 _ first (then _ refl (stop (c .if1 .taken))) ∙ is-4 _ _ _
 
-sqrt-requires : tie.Need-sqrt-requires
-sqrt-requires c κs = search needs
+weighed-requires : tie.Need-weighed-requires
+weighed-requires c κs = search needs
 
 returns-3 : tie.Need-returns-3
-unfolding iter-4 stops eval ofBits powerOf
+unfolding between-4 stops eval ofBits powerOf
 returns-3 c =
-    step-runs-4 _ _ _ inadmissible
-    (then _ refl (then _ refl (pass (c .before .before .before .before .before .before .if1 .left)
-    (then _ refl (pass (c .before .before .before .if2 .left)
-    (then (c .before .before .sqrt .result) (c .before .before .sqrt .ensures)
-    (then _ refl (stop (c .if3 .taken)))))))))
-
-sqrt-requires-2 : tie.Need-sqrt-requires-2
-sqrt-requires-2 c κs = search needs
-
-returns-4 : tie.Need-returns-4
-unfolding iter-4 stops eval ofBits powerOf
-returns-4 c =
-    step-runs-4 _ _ _ inadmissible
-    (then _ refl (then _ refl (pass (c .before .before .before .before .before .before .before .before .if1 .left)
-    (then _ refl (pass (c .before .before .before .before .before .if2 .left)
-    (then (c .before .before .before .before .sqrt .result) (c .before .before .before .before .sqrt .ensures)
-    (then _ refl (pass (c .before .before .if3 .left)
-    (then (c .before .sqrt2 .result) (c .before .sqrt2 .ensures)
-    (then _ refl (stop (c .if4 .taken))))))))))))
-
-returns-5 : tie.Need-returns-5
-unfolding iter-4 stops eval ofBits powerOf
-returns-5 c =
-    step-runs-4 _ _ _ (admitted _)
-    (then _ refl (then _ refl (pass (c .before .before .before .before .before .before .before .before .before .before .before .if1 .left)
-    (then _ refl (pass (c .before .before .before .before .before .before .before .before .if2 .left)
-    (then (c .before .before .before .before .before .before .before .sqrt .result) (c .before .before .before .before .before .before .before .sqrt .ensures)
-    (then _ refl (pass (c .before .before .before .before .before .if3 .left)
-    (then (c .before .before .before .before .sqrt2 .result) (c .before .before .before .before .sqrt2 .ensures)
-    (then _ refl (pass (c .before .before .before .if4 .left) (then _ refl (pass (within (c .before .if5 .taken) (c .if6 .taken)) done)))))))))))))
-
-returns-6 : tie.Need-returns-6
-unfolding iter-4 stops eval ofBits powerOf
-returns-6 c =
-    step-runs-4 _ _ _ inadmissible
-    (then _ refl (then _ refl (pass (c .before .before .before .before .before .before .before .before .before .before .before .if1 .left)
-    (then _ refl (pass (c .before .before .before .before .before .before .before .before .if2 .left)
-    (then (c .before .before .before .before .before .before .before .sqrt .result) (c .before .before .before .before .before .before .before .sqrt .ensures)
-    (then _ refl (pass (c .before .before .before .before .before .if3 .left)
-    (then (c .before .before .before .before .sqrt2 .result) (c .before .before .before .before .sqrt2 .ensures)
-    (then _ refl (pass (c .before .before .before .if4 .left) (then _ refl (stop (high (c .before .if5 .taken) (c .if6 .left)))))))))))))))
-
-returns-7 : tie.Need-returns-7
-unfolding iter-4 stops eval ofBits powerOf
-returns-7 c =
-    step-runs-4 _ _ _ inadmissible
-    (then _ refl (then _ refl (pass (c .before .before .before .before .before .before .before .before .before .before .if1 .left)
-    (then _ refl (pass (c .before .before .before .before .before .before .before .if2 .left)
-    (then (c .before .before .before .before .before .before .sqrt .result) (c .before .before .before .before .before .before .sqrt .ensures)
-    (then _ refl (pass (c .before .before .before .before .if3 .left)
-    (then (c .before .before .before .sqrt2 .result) (c .before .before .before .sqrt2 .ensures)
-    (then _ refl (pass (c .before .before .if4 .left) (then _ refl (stop (low _ (c .if5 .left)))))))))))))))
+    let nonzero = c .before .before in
+    let found = nonzero .before .before in
+    let first = ran (found .before .before .curves-from .ensures _) (found .mu-1 .given .1) in
+    weighs kind-4 _ first _ (then _ refl (pass (nonzero .if1 .left) (then _ refl done))) _ (c .weighed .ensures) ∙ is-4 _ _ _
 
 pub four-spec : {M : Type 1} → statement M
-four-spec =
-    tie.close
-    (tie.spec
-    returns
-    returns-2
-    sqrt-requires
-    returns-3
-    sqrt-requires-2
-    returns-4
-    returns-5
-    returns-6
-    returns-7)
+four-spec = tie.close (tie.spec curves-from-requires enum-known-mu-1 enum-told returns returns-2 weighed-requires returns-3)
