@@ -8,7 +8,7 @@ use number_requests::orders;
 use price_requests::curves;
 use replies::Reply;
 use step_requests::steps;
-use step_requests::walks;
+use walk_requests::walks;
 
 pub(crate) fn answer(s: &[u8], xs: &mut [f64]) -> Reply {
     let r = leaves::answer(s);

@@ -1,4 +1,3 @@
-// Requests of the fit's steps: one step, and a walk. A kind has one function from a line to its
-// reply; to a line of another kind it replies `Bad`.
-pub mod steps; // steps.rt: one step of the fit
-pub mod walks; // walks.rt: a walk of the fit
+// Requests of one step of the fit. A kind has one function from a line to its reply; to a line of
+// another kind it replies `Bad`.
+pub mod steps; // steps.rt: iter_4 and iter_5
