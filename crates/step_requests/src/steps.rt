@@ -1,5 +1,8 @@
 // Requests of one step of the fit. A list longer than 16 is read, and refused by the library.
-ghost use Rattle.replies.specs.Replies.{Unlisted};
+ghost use mathlib.Core.Path.{_≡_};
+ghost use lib.ListN.{drop, take};
+ghost use Rattle.step_requests.specs.Steps.{iterateReply, oneStep, stepFrom, stepReply, stepping, steps};
+ghost use Rattle.replies.specs.Requests.{only};
 use iterate::Iterate;
 use protocol::Fraction;
 use protocol_lists::List;
@@ -7,7 +10,7 @@ use replies::Reply;
 use step::Step;
 
 pub fn answer(s: &[u8]) -> Reply
-    ensures { λ r. ⌜ Unlisted r ⌝ }
+    ensures { λ r. ⌜ r ≡ steps (now (s .entry)) ⌝ }
 {
     if protocol::begins(s, b"iter_4 ") {
         return one_step(s, 6, 4);
@@ -18,31 +21,46 @@ pub fn answer(s: &[u8]) -> Reply
     Reply::Bad
 }
 
-// How many moments, mu_2 and p_1.
-enum Asked {
-    Is(usize, f64, f64),
-    No,
+// The step that reads so many moments, four or five, from the place after its name.
+fn one_step(s: &[u8], at: usize, reads: u64) -> Reply
+    ensures { λ r. ⌜ r ≡ only (oneStep (stepping reads) (drop at (now (s .entry)))) ⌝ }
+{
+    let mut m = [0.0f64; 17];
+    let List::Is(n, a) = protocol_lists::read_next_list(s, at, &mut m) else {
+        return Reply::Bad;
+    };
+    step_from(s, a, reads, &m, n)
 }
 
-// The rest of a request, its moments into m.
-fn read(s: &[u8], at: usize, m: &mut [f64]) -> Asked {
-    let List::Is(n, a) = protocol_lists::read_next_list(s, at, m) else {
-        return Asked::No;
+// The words after the moments, of which n were given and m has as many as it has places for.
+fn step_from(s: &[u8], at: usize, reads: u64, m: &[f64], n: usize) -> Reply
+    ensures { λ r. ⌜ r ≡ only (stepFrom (stepping reads) (take n (now (m .entry))) (drop at (now (s .entry)))) ⌝ }
+{
+    let Fraction::Is(mu_2, a) = protocol::read_next_fraction(s, at) else {
+        return Reply::Bad;
     };
-    let Fraction::Is(mu_2, b) = protocol::read_next_fraction(s, a) else {
-        return Asked::No;
+    let Fraction::Is(p_1, e) = protocol::read_next_fraction(s, a) else {
+        return Reply::Bad;
     };
-    let Fraction::Is(p_1, e) = protocol::read_next_fraction(s, b) else {
-        return Asked::No;
-    };
-    if e != s.len() {
-        return Asked::No;
+    if e < s.len() {
+        return Reply::Bad;
     }
-    Asked::Is(n, mu_2, p_1)
+    reply(stepped(m, n, reads, mu_2, p_1))
+}
+
+// 17 moments are enough to be refused.
+fn stepped(m: &[f64], n: usize, reads: u64, mu_2: f64, p_1: f64) -> Iterate
+    ensures { λ r. ⌜ r ≡ stepping reads (take n (now (m .entry))) mu_2 p_1 ⌝ }
+{
+    let k = protocol::least(n, m.len());
+    if reads == 4 {
+        return iterate::iter_4(&m[..k], mu_2, p_1);
+    }
+    iterate::iter_5(&m[..k], mu_2, p_1)
 }
 
 fn reply(i: Iterate) -> Reply
-    ensures { λ r. ⌜ Unlisted r ⌝ }
+    ensures { λ r. ⌜ r ≡ iterateReply i ⌝ }
 {
     match i {
         Iterate::Refused(number) => Reply::Refused(number),
@@ -51,30 +69,10 @@ fn reply(i: Iterate) -> Reply
 }
 
 fn step_reply(t: Step) -> Reply
-    ensures { λ r. ⌜ Unlisted r ⌝ }
+    ensures { λ r. ⌜ r ≡ stepReply t ⌝ }
 {
     match t {
         Step::Admitted(p) => Reply::Parameters(p),
         Step::Inadmissible => Reply::Inadmissible,
     }
-}
-
-// The step that reads so many moments, four or five. n counts the list; 17 of it are enough to be
-// refused.
-fn stepped(m: &[f64], n: usize, reads: u64, mu_2: f64, p_1: f64) -> Iterate {
-    let k = protocol::least(n, m.len());
-    if reads == 4 {
-        return iterate::iter_4(&m[..k], mu_2, p_1);
-    }
-    iterate::iter_5(&m[..k], mu_2, p_1)
-}
-
-fn one_step(s: &[u8], at: usize, reads: u64) -> Reply
-    ensures { λ r. ⌜ Unlisted r ⌝ }
-{
-    let mut m = [0.0f64; 17];
-    let Asked::Is(n, mu_2, p_1) = read(s, at, &mut m) else {
-        return Reply::Bad;
-    };
-    reply(stepped(&m, n, reads, mu_2, p_1))
 }

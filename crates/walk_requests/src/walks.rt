@@ -1,5 +1,8 @@
 // The request of a walk. A list longer than 16 is read, and refused by the library.
-ghost use Rattle.replies.specs.Replies.{Unlisted};
+ghost use mathlib.Core.Path.{_≡_};
+ghost use lib.ListN.{drop};
+ghost use Rattle.walk_requests.specs.Walks.{outcomeReply, walk, walkFrom, walkedReply, walks};
+ghost use Rattle.replies.specs.Requests.{only};
 use protocol::Fraction;
 use protocol_lists::List;
 use protocol_lists::State;
@@ -11,7 +14,7 @@ use walk::Outcome;
 use walk::Walked;
 
 pub fn answer(s: &[u8]) -> Reply
-    ensures { λ r. ⌜ Unlisted r ⌝ }
+    ensures { λ r. ⌜ r ≡ walks (now (s .entry)) ⌝ }
 {
     if protocol::begins(s, b"walk ") {
         return walk(s, 4);
@@ -19,64 +22,39 @@ pub fn answer(s: &[u8]) -> Reply
     Reply::Bad
 }
 
-// Where a walk starts and when it settles: mu_2, p_1 and epsilon; and the place after them.
-enum Start {
-    At(f64, f64, f64, usize),
-    No,
+fn walk(s: &[u8], at: usize) -> Reply
+    ensures { λ r. ⌜ r ≡ only (walk (drop at (now (s .entry)))) ⌝ }
+{
+    let Number::Is(variant, a) = protocol::read_next_natural(s, at, u64::MAX) else {
+        return Reply::Bad;
+    };
+    let mut m = [0.0f64; 16];
+    let List::Is(n, b) = protocol_lists::read_next_list(s, a, &mut m) else {
+        return Reply::Bad;
+    };
+    walk_from(s, b, variant, m, n)
 }
 
-fn read_start(s: &[u8], at: usize) -> Start {
+// The words after the moments, of which n were given.
+fn walk_from(s: &[u8], at: usize, variant: u64, m: [f64; 16], n: usize) -> Reply
+    ensures { λ r. ⌜ r ≡ only (walkFrom variant m n (drop at (now (s .entry)))) ⌝ }
+{
     let Fraction::Is(mu_2, a) = protocol::read_next_fraction(s, at) else {
-        return Start::No;
+        return Reply::Bad;
     };
     let Fraction::Is(p_1, b) = protocol::read_next_fraction(s, a) else {
-        return Start::No;
+        return Reply::Bad;
     };
     let Fraction::Is(epsilon, c) = protocol::read_next_fraction(s, b) else {
-        return Start::No;
-    };
-    Start::At(mu_2, p_1, epsilon, c)
-}
-
-fn reply(w: Walked) -> Reply
-    ensures { λ r. ⌜ Unlisted r ⌝ }
-{
-    let m = w.state;
-    let o = w.outcome;
-    match o {
-        Outcome::Refused(number) => Reply::Refused(number),
-        Outcome::Ended(count, reason) => report(m, count, reason),
-    }
-}
-
-fn report(m: M2N, count: usize, reason: u64) -> Reply
-    ensures { λ r. ⌜ Unlisted r ⌝ }
-{
-    let parameters = m.parameters;
-    let new_moments = m.new_moments;
-    Reply::Walked(Report {
-        count: count as u64,
-        reason: reason,
-        parameters: parameters,
-        error: m.error,
-        new_moments: new_moments,
-    })
-}
-
-// What follows the moments.
-fn walk_from(s: &[u8], at: usize, variant: u64, m: [f64; 16], n: usize) -> Reply
-    ensures { λ r. ⌜ Unlisted r ⌝ }
-{
-    let Start::At(mu_2, p_1, epsilon, a) = read_start(s, at) else {
         return Reply::Bad;
     };
-    let Number::Is(max_iter, b) = protocol::read_next_natural(s, a, u64::MAX) else {
+    let Number::Is(max_iter, d) = protocol::read_next_natural(s, c, u64::MAX) else {
         return Reply::Bad;
     };
-    let State::Is(parameters, error, new_moments, e) = protocol_lists::read_next_state(s, b) else {
+    let State::Is(parameters, error, new_moments, e) = protocol_lists::read_next_state(s, d) else {
         return Reply::Bad;
     };
-    if e != s.len() {
+    if e < s.len() {
         return Reply::Bad;
     }
     reply(walk::iterate_from(
@@ -97,15 +75,27 @@ fn walk_from(s: &[u8], at: usize, variant: u64, m: [f64; 16], n: usize) -> Reply
     ))
 }
 
-fn walk(s: &[u8], at: usize) -> Reply
-    ensures { λ r. ⌜ Unlisted r ⌝ }
+fn reply(w: Walked) -> Reply
+    ensures { λ r. ⌜ r ≡ walkedReply w ⌝ }
 {
-    let Number::Is(variant, a) = protocol::read_next_natural(s, at, u64::MAX) else {
-        return Reply::Bad;
-    };
-    let mut m = [0.0f64; 16];
-    let List::Is(n, b) = protocol_lists::read_next_list(s, a, &mut m) else {
-        return Reply::Bad;
-    };
-    walk_from(s, b, variant, m, n)
+    let m = w.state;
+    let o = w.outcome;
+    match o {
+        Outcome::Refused(number) => Reply::Refused(number),
+        Outcome::Ended(count, reason) => report(m, count, reason),
+    }
+}
+
+fn report(m: M2N, count: usize, reason: u64) -> Reply
+    ensures { λ r. ⌜ r ≡ outcomeReply (Outcome.Ended count reason) m ⌝ }
+{
+    let parameters = m.parameters;
+    let new_moments = m.new_moments;
+    Reply::Walked(Report {
+        count: count as u64,
+        reason: reason,
+        parameters: parameters,
+        error: m.error,
+        new_moments: new_moments,
+    })
 }

@@ -1,8 +1,10 @@
--- `step_requests::steps::stepped` is safe: the part has as many moments as were asked for. Assumes nothing.
+-- `step_requests::steps::stepped` meets its contract, by how many moments the step reads: the part has as many as were asked for, or all. Assumes nothing.
 use mathlib.Core.Path.{sym}
 use native.Mathlib.Omega.{arith}
 use borrow.Author.Needs.{needs}
+use borrow.Author.Tests.{ne-eqb}
 use lib.Seq.{length-take-le}
+use Rattle.protocol_lists.proofs.Listing.{take-least}
 use Rattle.step_requests.proofs.steps.stepped.Statement.{statement}
 use Rattle.step_requests.proofs.steps.stepped.Tie as tie
 
@@ -16,7 +18,7 @@ iter-4-requires : tie.Need-iter-4-requires
 iter-4-requires c κs = search needs
 
 returns : tie.Need-returns
-returns c = search needs
+returns c = rw (c .before .before .if1 .taken, c .iter-4 .ensures, c .before .before .before .least .ensures, take-least)
 
 slice-aggregate-iter-5 : tie.Need-slice-aggregate-iter-5
 slice-aggregate-iter-5 c = sym (length-take-le _ _ (omega arith))
@@ -25,7 +27,9 @@ iter-5-requires : tie.Need-iter-5-requires
 iter-5-requires c κs = search needs
 
 returns-2 : tie.Need-returns-2
-returns-2 c = search needs
+returns-2 c =
+    let d = c .before .before in
+    rw (ne-eqb _ _ (d .if1 .left), c .iter-5 .ensures, d .before .least .ensures, take-least)
 
 pub stepped-spec : {M : Type 1} → statement M
 stepped-spec =
