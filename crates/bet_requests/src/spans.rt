@@ -149,7 +149,7 @@ fn sizes_reply(g: Given, starts: &[i64], ends: &[i64], sides: &[f64], xs: &mut [
     let n_ends = protocol::least(g.ends, ends.len());
     let n_sides = protocol::least(g.sides, sides.len());
     let room = protocol::least(g.room, xs.len());
-    let r = bet_sizing::bet_size_budget(
+    let r = budget::bet_size_budget(
         &starts[..n_starts],
         &ends[..n_ends],
         &sides[..n_sides],

@@ -7,4 +7,3 @@ pub mod Ranks
 pub mod Refusing
 pub mod Searching
 pub mod Signs
-pub mod Sizing

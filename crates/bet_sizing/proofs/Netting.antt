@@ -16,7 +16,7 @@ use borrow.Author.Tests.{ltb-true, ltb-false, leb-true, leb-false}
 use Rattle.float.specs.Keys.{keyOf}
 use Rattle.float.proofs.Keys.{key-le, key-lt}
 use Rattle.bet_sizing.specs.Counting.{Collected, Counted, Nettable, Netted, begun, ended, net}
-use Rattle.bet_sizing.specs.Counts.{concurrent, indicator, maximum, onSide, whole}
+use Rattle.bet_sizing.specs.Counts.{concurrent, indicator, onSide, whole}
 use Rattle.bet_sizing.specs.Sorting.{Sorted, Sorts}
 use Rattle.bet_sizing.proofs.Halves.{front-of}
 
@@ -53,27 +53,18 @@ law long t (s ∷ ss) (e ∷ es) [] ft fs fe = omega arith
 law long t (s ∷ ss) (e ∷ es) (d ∷ ds) ft fs fe =
     omega (arith, span s e t (onSide long d) (fs 0 (omega arith)) (fe 0 (omega arith)) ft, law long t ss es ds ft (λ k l. fs (suc k) (omega arith)) (λ k l. fe (suc k) (omega arith)))
 
--- ---- lists of values
-
+-- equal values at each instant
 same-map : (f g : ℤ → Float) (ss : List ℤ) → ((k : ℕ) → k < length ss → f (getD ss k (pos 0)) ≡ g (getD ss k (pos 0))) → map f ss ≡ map g ss
 same-map f g [] h = refl
 same-map f g (s ∷ ss) h = cc (h 0 (omega arith), same-map f g ss (λ k l. h (suc k) (omega arith)))
 
-same-maximum : (f g : ℤ → ℕ) (ss : List ℤ) → ((k : ℕ) → k < length ss → f (getD ss k (pos 0)) ≡ g (getD ss k (pos 0))) → maximum f ss ≡ maximum g ss
-unfolding maximum
-same-maximum f g [] h = refl
-same-maximum f g (s ∷ ss) h = cc (h 0 (omega arith), same-maximum f g ss (λ k l. h (suc k) (omega arith)))
-
 -- from what is collected and sorted to the counts
-pub netted : {long : Bool} {ss es : List ℤ} {ds old new : List Float} {s e s' e' : List ℕ} {m r : ℕ} → Collected long ss es ds s e m → Sorts (take m s) s' → Sorts (take m e) e' → Netted ss s' e' old new r → Counted long ss es ds old new r
+pub netted : {long : Bool} {ss es : List ℤ} {ds old new : List Float} {s e s' e' : List ℕ} {m : ℕ} → Collected long ss es ds s e m → Sorts (take m s) s' → Sorts (take m e) e' → Netted ss s' e' old new → Counted long ss es ds old new
 netted {long} {ss} {es} {ds} {old} {s' = s'} {e' = e'} c p q w =
     let at : (k : ℕ) → k < length ss → net s' e' (getD ss k (pos 0)) ≡ concurrent long (getD ss k (pos 0)) ss es ds = λ k l.
     let x = keyOf (getD ss k (pos 0)) in
     omega (arith, p .same x, q .same x, c .starts x, c .ends x, law long (getD ss k (pos 0)) ss es ds (c .fit-starts k l) (c .fit-starts) (c .fit-ends)) in
-    record {
-      list = w .list ∙ ap (λ (z : List Float). z ++ drop (length ss) old) (same-map (λ t. whole (net s' e' t)) (λ t. whole (concurrent long t ss es ds)) ss (λ k l. ap whole (at k l)));
-      top = w .top ∙ same-maximum (net s' e') (λ t. concurrent long t ss es ds) ss at;
-    }
+    record { list = w .list ∙ ap (λ (z : List Float). z ++ drop (length ss) old) (same-map (λ t. whole (net s' e' t)) (λ t. whole (concurrent long t ss es ds)) ss (λ k l. ap whole (at k l))) }
 
 module _ (s e x y : List ℕ) (m : ℕ) (hs : m ≤ length s) (he : m ≤ length e) (kx : length x ≡ length (take m s)) (ky : length y ≡ length (take m e)) (p : Sorts (take m s) x) (q : Sorts (take m e) y) where
   pub nettable : {ss : List ℤ} {out : List Float} → m ≤ 16384 → length ss ≤ length out → Nettable ss (take m (x ++ drop m s)) (take m (y ++ drop m e)) out
@@ -85,8 +76,8 @@ module _ (s e x y : List ℕ) (m : ℕ) (hs : m ≤ length s) (he : m ≤ length
     room = room;
   }
 
-  pub netted-at : {long : Bool} {ss es : List ℤ} {ds out new : List Float} {r : ℕ} → Collected long ss es ds s e m → Netted ss (take m (x ++ drop m s)) (take m (y ++ drop m e)) out new r → Counted long ss es ds out new r
-  netted-at {ss = ss} {out = out} {new = new} {r = r} c w =
+  pub netted-at : {long : Bool} {ss es : List ℤ} {ds out new : List Float} → Collected long ss es ds s e m → Netted ss (take m (x ++ drop m s)) (take m (y ++ drop m e)) out new → Counted long ss es ds out new
+  netted-at {ss = ss} {out = out} {new = new} c w =
       netted c p q
-      (subst (λ (z : List ℕ). Netted ss z y out new r) (front-of s x m hs kx)
-      (subst (λ (z : List ℕ). Netted ss (take m (x ++ drop m s)) z out new r) (front-of e y m he ky) w))
+      (subst (λ (z : List ℕ). Netted ss z y out new) (front-of s x m hs kx)
+      (subst (λ (z : List ℕ). Netted ss (take m (x ++ drop m s)) z out new) (front-of e y m he ky) w))

@@ -9,10 +9,9 @@ use lib.ListN.{length, drop}
 use lib.IntN.{ℤ}
 use lib.Ieee.{Float}
 use borrow.Author.Tests.{eq-eqb, ne-eqb, le-ltb, lt-ltb, eqb-true, ltb-false}
-use Rattle.bet_sizing.specs.Budget.{budgetSizes}
 use Rattle.bet_sizing.specs.Counting.{Accepted}
 use Rattle.bet_sizing.specs.Counts.{concurrentCounts}
-use Rattle.bet_sizing.specs.Refusals.{BetSizeBudget, ConcurrentSides, budgetRefusal, listAfter, outcome, spansRefusal}
+use Rattle.bet_sizing.specs.Refusals.{ConcurrentSides, listAfter, outcome, spansRefusal}
 use Rattle.bet_sizing.specs.declared.Outcome.the-variants.{Unwritten, Written}
 
 -- the tests, in their order
@@ -73,14 +72,6 @@ pub accepted : {ss es : List ℤ} {ds out : List Float} (r room : ℕ) → r ≡
 accepted {ss} {es} {ds} r room e z l =
     let h = fitting (length ss) (length es) (length ds) room (sym z ∙ e) in
     record { ends = h .ends; sides = h .sides; few = h .few; room = omega (arith, h .wide) }
-
--- the budget's, with r for the number
-module _ {ss es : List ℤ} {ds old : List Float} {r : ℕ} (e : r ≡ budgetRefusal ss es ds old) where
-  pub budget-refused : (r ≡ 0 → ⊥) → BetSizeBudget ss es ds old old (Unwritten r)
-  budget-refused h = record { answered = answered-refusal r _ _ e h; sizes = list-kept r _ _ _ old e h }
-
-  pub budget-written : {new : List Float} → r ≡ 0 → new ≡ budgetSizes ss es ds ++ drop (length ss) old → BetSizeBudget ss es ds old new (Written (length ss))
-  budget-written z p = record { answered = answered-none _ _ (sym z ∙ e); sizes = p ∙ list-written _ _ _ old (sym z ∙ e) }
 
 -- a refusal by another name of the room
 at-room : (n e d k : ℕ) {r room : ℕ} → room ≡ k → r ≡ spansRefusal n e d room → r ≡ spansRefusal n e d k

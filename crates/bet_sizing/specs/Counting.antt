@@ -1,17 +1,17 @@
 -- How the counts are made: the starts and ends of a side's spans as sorted keys, whose ranks differ by the live spans. Definitions only, which the private functions promise each other.
 use Prim.Native.Nat.{ℕ, _+_, _-_, _≤_, _<_}
 use mathlib.Core.Path.{_≡_}
-use mathlib.Core.Bool.{Bool, true, false, _&&_}
+use mathlib.Core.Bool.{Bool, _&&_}
 use mathlib.Core.List.{List, [], _∷_, _++_, map}
 use lib.Dec.{leb}
 use lib.ListN.{length, take, drop, getD}
 use lib.IntN.{ℤ, pos}
 use lib.Signed.{ltZ}
-use lib.Ieee.{Float, nan}
+use lib.Ieee.{Float}
 use mir.Syntax.{w64}
 use mir.Val.{SFits}
 use Rattle.float.specs.Keys.{keyOf}
-use Rattle.bet_sizing.specs.Counts.{indicator, onSide, concurrent, whole, concurrentCounts, maximum, maxConcurrent}
+use Rattle.bet_sizing.specs.Counts.{indicator, onSide, whole, concurrentCounts}
 use Rattle.bet_sizing.specs.Sorting.{rank, Sorted}
 
 -- of the spans of a side that end after they start, all others being never live, how many have a start, or an end, up to the key x
@@ -64,10 +64,9 @@ pub record Nettable (ss : List ℤ) (s e : List ℕ) (out : List Float) : Type 0
   pub few-ends : length e ≤ 16384
   pub room : length ss ≤ length out
 
--- the net counts at each start, then what was there; and the largest of them
-pub record Netted (ss : List ℤ) (s e : List ℕ) (old new : List Float) (r : ℕ) : Type 0 where
+-- the net counts at each start, then what was there
+pub record Netted (ss : List ℤ) (s e : List ℕ) (old new : List Float) : Type 0 where
   pub list : new ≡ map (λ t. whole (net s e t)) ss ++ drop (length ss) old
-  pub top : r ≡ maximum (net s e) ss
 
 -- as many ends and sides as starts, few enough, and room for the counts
 pub record Accepted (ss es : List ℤ) (ds out : List Float) : Type 0 where
@@ -76,17 +75,6 @@ pub record Accepted (ss es : List ℤ) (ds out : List Float) : Type 0 where
   pub few : length ss ≤ 16384
   pub room : length ss ≤ length out
 
--- the counts of a side at each start, then what was there; and the largest of them
-pub record Counted (long : Bool) (ss es : List ℤ) (ds old new : List Float) (r : ℕ) : Type 0 where
+-- the counts of a side at each start, then what was there
+pub record Counted (long : Bool) (ss es : List ℤ) (ds old new : List Float) : Type 0 where
   pub list : new ≡ concurrentCounts long ss es ds ++ drop (length ss) old
-  pub top : r ≡ maxConcurrent long ss es ds
-
--- the counts of both sides at each start, with the largest of each, and room for the sizes
-pub record Sizeable (ss es : List ℤ) (ds long short : List Float) (a b : ℕ) (old : List Float) : Type 0 where
-  pub in-long : length ss ≤ length long
-  pub in-short : length ss ≤ length short
-  pub longs : (i : ℕ) → i < length ss → getD long i nan ≡ whole (concurrent true (getD ss i (pos 0)) ss es ds)
-  pub shorts : (i : ℕ) → i < length ss → getD short i nan ≡ whole (concurrent false (getD ss i (pos 0)) ss es ds)
-  pub top-long : a ≡ maxConcurrent true ss es ds
-  pub top-short : b ≡ maxConcurrent false ss es ds
-  pub room : length ss ≤ length old

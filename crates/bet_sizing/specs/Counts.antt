@@ -1,5 +1,5 @@
 -- Spans in time, each with a side: how many of a side are live at an instant (chapter 10 of Advances in Financial Machine Learning; the Rust's get_concurrent_sides). Definitions only.
-use Prim.Native.Nat.{ℕ, _+_, max}
+use Prim.Native.Nat.{ℕ, _+_}
 use mathlib.Core.Bool.{Bool, true, false, not, _&&_, cond}
 use mathlib.Core.List.{List, [], _∷_, map}
 use lib.IntN.{ℤ, pos}
@@ -34,12 +34,3 @@ whole n = ofInt binary64 (pos n)
 -- for each span, how many of a side are live at its start
 abbrev pub concurrentCounts : Bool → List ℤ → List ℤ → List Float → List Float
 concurrentCounts long ss es ds = map (λ t. whole (concurrent long t ss es ds)) ss
-
--- the largest of f over a list, 0 for none
-unfoldable pub maximum : (ℤ → ℕ) → List ℤ → ℕ
-maximum f [] = 0
-maximum f (t ∷ ts) = max (f t) (maximum f ts)
-
--- the largest number of a side that is live at a span's start
-abbrev pub maxConcurrent : Bool → List ℤ → List ℤ → List Float → ℕ
-maxConcurrent long ss es ds = maximum (λ t. concurrent long t ss es ds) ss

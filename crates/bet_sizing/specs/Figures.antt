@@ -3,20 +3,19 @@ use mathlib.Core.Path.{_≡_, refl}
 use mathlib.Core.Bool.{true, false}
 use mathlib.Core.List.{List, [], _∷_, map}
 use lib.IntN.{ℤ, pos, negsuc}
-use lib.Ieee.{Float, nan, binary64, ofBits, toBits, ofInt, lt, div, sub, round, units, odd, size, sum, add, neg, span, climb}
-use Rattle.float.specs.Constants.{nought, one}
-use Rattle.bet_sizing.specs.Budget.{budgetSizes}
-use Rattle.bet_sizing.specs.Counts.{concurrent, live, maximum, whole}
+use lib.Ieee.{Float, nan, binary64, ofBits, lt}
+use Rattle.float.specs.Constants.{nought}
+use Rattle.bet_sizing.specs.Counts.{concurrent, live}
 use Rattle.bet_sizing.specs.Refusals.{spansRefusal}
 
 -- the spans of the sheet: 0 to 10 long, 5 to 15 short, 10 to 20 long
-abbrev starts : List ℤ
+abbrev pub starts : List ℤ
 starts = pos 0 ∷ pos 5 ∷ pos 10 ∷ []
 
-abbrev ends : List ℤ
+abbrev pub ends : List ℤ
 ends = pos 10 ∷ pos 15 ∷ pos 20 ∷ []
 
-abbrev sides : List Float
+abbrev pub sides : List Float
 sides = ofBits binary64 0x3ff0000000000000 ∷ ofBits binary64 0xbff0000000000000 ∷ ofBits binary64 0x3ff0000000000000 ∷ []
 
 longs : map (λ t. concurrent true t starts ends sides) starts ≡ 1 ∷ 1 ∷ 1 ∷ []
@@ -26,10 +25,6 @@ longs = refl
 shorts : map (λ t. concurrent false t starts ends sides) starts ≡ 0 ∷ 1 ∷ 1 ∷ []
 unfolding concurrent lt ofBits
 shorts = refl
-
-sizes : map (toBits binary64) (budgetSizes starts ends sides) ≡ 0x3ff0000000000000 ∷ 0x0000000000000000 ∷ 0x0000000000000000 ∷ []
-unfolding concurrent maximum whole lt ofBits toBits ofInt div sub add neg sum round units odd size span climb
-sizes = refl
 
 -- a span from 0 to 10 is not live at its own end, and one that does not end after it starts is never live
 at-its-end : live (pos 10) (pos 0) (pos 10) ≡ false
@@ -42,11 +37,6 @@ empty = refl
 flat-sides : concurrent false (negsuc 0) (negsuc 4 ∷ negsuc 4 ∷ []) (pos 3 ∷ pos 3 ∷ []) (nought ∷ nan ∷ []) ≡ 2
 unfolding concurrent lt
 flat-sides = refl
-
--- with no short span, its side is +0, and the sizes are the longs' alone
-longs-alone : map (toBits binary64) (budgetSizes (pos 0 ∷ pos 5 ∷ []) (pos 9 ∷ pos 9 ∷ []) (one ∷ one ∷ [])) ≡ 0x3fe0000000000000 ∷ 0x3ff0000000000000 ∷ []
-unfolding concurrent maximum whole lt toBits ofInt div sub add neg sum round units odd size span climb
-longs-alone = refl
 
 -- the refusals, in their order
 refusals : (spansRefusal 16385 3 16385 0 ∷ spansRefusal 16385 16385 16385 0 ∷ spansRefusal 4 4 4 3 ∷ spansRefusal 4 4 4 4 ∷ []) ≡ 10 ∷ 11 ∷ 8 ∷ 0 ∷ []

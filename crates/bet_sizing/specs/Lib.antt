@@ -1,4 +1,3 @@
-pub mod Budget
 pub mod Counting
 pub mod Counts
 pub mod Figures

@@ -1,4 +1,4 @@
--- What the counts and the budget answer, and what the lent lists hold after it: document 01's refusals in its order. Definitions only.
+-- What the counts answer, and what the lent lists hold after it: document 01's refusals in its order, which are the budget's too. Definitions only.
 use Prim.Native.Nat.{ℕ, zero, suc, min}
 use mathlib.Core.Path.{_≡_}
 use mathlib.Core.Bool.{true, false, not, _&&_, cond}
@@ -7,7 +7,6 @@ use lib.Dec.{eqb, ltb}
 use lib.ListN.{length, drop}
 use lib.IntN.{ℤ}
 use lib.Ieee.{Float}
-use Rattle.bet_sizing.specs.Budget.{budgetSizes}
 use Rattle.bet_sizing.specs.Counts.{concurrentCounts}
 use Rattle.bet_sizing.specs.declared.Outcome.{Outcome}
 use Rattle.bet_sizing.specs.declared.Outcome.the-variants.{Unwritten, Written}
@@ -30,16 +29,8 @@ listAfter (suc k) n new old = old
 abbrev pub countsRefusal : List ℤ → List ℤ → List Float → List Float → List Float → ℕ
 countsRefusal ss es ds long short = spansRefusal (length ss) (length es) (length ds) (min (length long) (length short))
 
-abbrev pub budgetRefusal : List ℤ → List ℤ → List Float → List Float → ℕ
-budgetRefusal ss es ds size = spansRefusal (length ss) (length es) (length ds) (length size)
-
 -- get_concurrent_sides: its answer, and the two lent lists before and after it
 pub record ConcurrentSides (ss es : List ℤ) (ds long long' short short' : List Float) (answer : Outcome) : Type 0 where
   pub answered : answer ≡ outcome (countsRefusal ss es ds long short) (length ss)
   pub longs : long' ≡ listAfter (countsRefusal ss es ds long short) (length ss) (concurrentCounts true ss es ds) long
   pub shorts : short' ≡ listAfter (countsRefusal ss es ds long short) (length ss) (concurrentCounts false ss es ds) short
-
--- bet_size_budget: its answer, and the lent list before and after it
-pub record BetSizeBudget (ss es : List ℤ) (ds size size' : List Float) (answer : Outcome) : Type 0 where
-  pub answered : answer ≡ outcome (budgetRefusal ss es ds size) (length ss)
-  pub sizes : size' ≡ listAfter (budgetRefusal ss es ds size) (length ss) (budgetSizes ss es ds) size

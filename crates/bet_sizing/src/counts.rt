@@ -2,7 +2,7 @@
 // then, each found by its rank in a sorted list.
 ghost use mathlib.Core.Path.{_≡_};
 ghost use mathlib.Core.Bool.{_&&_};
-ghost use Prim.Native.Nat.{_-_, max};
+ghost use Prim.Native.Nat.{_-_};
 ghost use lib.Signed.{ltZ};
 ghost use Rattle.bet_sizing.specs.Counting.{Accepted, AcceptedIn, Collectable, Collected, Counted, Nettable, Netted};
 ghost use Rattle.bet_sizing.specs.Counts.{indicator, onSide};
@@ -17,15 +17,6 @@ fn on_side(long: bool, side: f64) -> bool
 {
     let up = side > 0.0;
     if long { up } else { !up }
-}
-
-fn larger(a: u32, b: u32) -> u32
-    ensures { λ r. ⌜ r ≡ max a b ⌝ }
-{
-    if a < b {
-        return b;
-    }
-    a
 }
 
 // a - b, or 0 where b is the larger.
@@ -78,25 +69,20 @@ fn collect(
 }
 
 // Writes for each instant the number of starts up to then less the number of ends up to then.
-// Answers the largest.
-fn net_counts(starts: &[i64], s: &[u64], e: &[u64], out: &mut [f64]) -> u32
+fn net_counts(starts: &[i64], s: &[u64], e: &[u64], out: &mut [f64])
     requires { ⌜ Nettable (now starts) (now s) (now e) (now out) ⌝ }
-    ensures { λ r. ⌜ Netted (now (starts .entry)) (now (s .entry)) (now (e .entry)) (now (out .entry)) (now (out .exit)) r ⌝ }
+    ensures { λ _. ⌜ Netted (now (starts .entry)) (now (s .entry)) (now (e .entry)) (now (out .entry)) (now (out .exit)) ⌝ }
 {
-    let mut top: u32 = 0;
     let mut i: usize = 0;
     while i < starts.len() {
         let k = number::key(starts[i]);
         let c = saturating_sub(sorting::rank_of(s, k), sorting::rank_of(e, k)) as u32;
         out[i] = c as f64;
-        top = larger(top, c);
         i += 1;
     }
-    top
 }
 
-// Writes for each span the number of a side live at its start, with s, e and t for room. Answers
-// the largest.
+// Writes for each span the number of a side live at its start, with s, e and t for room.
 fn count_side_in(
     long: bool,
     starts: &[i64],
@@ -106,31 +92,25 @@ fn count_side_in(
     e: &mut [u64],
     t: &mut [u64],
     out: &mut [f64],
-) -> u32
+)
     requires { ⌜ AcceptedIn (now starts) (now ends) (now sides) (now s) (now e) (now t) (now out) ⌝ }
-    ensures { λ r. ⌜ Counted long (now (starts .entry)) (now (ends .entry)) (now (sides .entry)) (now (out .entry)) (now (out .exit)) r ⌝ }
+    ensures { λ _. ⌜ Counted long (now (starts .entry)) (now (ends .entry)) (now (sides .entry)) (now (out .entry)) (now (out .exit)) ⌝ }
 {
     let m = collect(long, starts, ends, sides, s, e);
     sorting::sort(&mut s[..m], t);
     sorting::sort(&mut e[..m], t);
-    net_counts(starts, &s[..m], &e[..m], out)
+    net_counts(starts, &s[..m], &e[..m], out);
 }
 
 // The same, with rooms of its own, apart for shorter proofs.
-pub(crate) fn count_side(
-    long: bool,
-    starts: &[i64],
-    ends: &[i64],
-    sides: &[f64],
-    out: &mut [f64],
-) -> u32
+fn count_side(long: bool, starts: &[i64], ends: &[i64], sides: &[f64], out: &mut [f64])
     requires { ⌜ Accepted (now starts) (now ends) (now sides) (now out) ⌝ }
-    ensures { λ r. ⌜ Counted long (now (starts .entry)) (now (ends .entry)) (now (sides .entry)) (now (out .entry)) (now (out .exit)) r ⌝ }
+    ensures { λ _. ⌜ Counted long (now (starts .entry)) (now (ends .entry)) (now (sides .entry)) (now (out .entry)) (now (out .exit)) ⌝ }
 {
     let mut s = [0u64; 16384];
     let mut e = [0u64; 16384];
     let mut t = [0u64; 16384];
-    count_side_in(long, starts, ends, sides, &mut s, &mut e, &mut t, out)
+    count_side_in(long, starts, ends, sides, &mut s, &mut e, &mut t, out);
 }
 
 // Writes for each span how many are live at its start, the long and the short.

@@ -1,10 +1,8 @@
-// Bet sizes from the sides and lifespans of the bets: how many are live, and the budget size.
-pub mod budget; // budget.rt: the budget size
-pub mod counts; // counts.rt: how many of each side are live at each start
-pub mod refusals; // refusals.rt: what the two turn away
+// How many bets of each side are live at the start of each, from their sides and lifespans.
+pub mod counts; // counts.rt: the counts
+pub mod refusals; // refusals.rt: what is turned away
 pub mod sorting; // sorting.rt: sorted lists of keys
 
-pub use budget::bet_size_budget;
 pub use counts::get_concurrent_sides;
 
 // How many places of each lent list were written, or why none was: document 01's number.

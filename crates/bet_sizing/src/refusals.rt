@@ -1,4 +1,4 @@
-// What the counts and the budget turn away, in document 01's order.
+// What the counts turn away, in document 01's order.
 ghost use mathlib.Core.Path.{_≡_};
 ghost use Prim.Native.Nat.{min};
 ghost use Rattle.bet_sizing.specs.Refusals.{spansRefusal};

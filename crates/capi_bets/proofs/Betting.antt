@@ -4,8 +4,9 @@ use mathlib.Core.List.{List}
 use Prim.Native.Nat.{ℕ}
 use lib.IntN.{ℤ}
 use lib.Ieee.{Float}
-use Rattle.bet_sizing.specs.Refusals.{BetSizeBudget, ConcurrentSides}
+use Rattle.bet_sizing.specs.Refusals.{ConcurrentSides}
 use Rattle.bet_sizing.specs.declared.Outcome.{Outcome}
+use Rattle.budget.specs.Budget.{BetSizeBudget}
 use Rattle.capi_bets.specs.Bets.{BudgetLeaves, SidesLeave, spansNumber}
 
 module _ (ss es : List ℤ) (ds : List Float) (o : Outcome) (answer : ℕ) (e : answer ≡ spansNumber o) where

@@ -5,9 +5,10 @@ use Prim.Native.Nat.{ℕ}
 use lib.ListN.{length}
 use lib.IntN.{ℤ}
 use lib.Ieee.{Float}
-use Rattle.bet_sizing.specs.Refusals.{BetSizeBudget, ConcurrentSides, budgetRefusal, countsRefusal, outcome}
+use Rattle.bet_sizing.specs.Refusals.{ConcurrentSides, countsRefusal, outcome}
 use Rattle.bet_sizing.specs.declared.Outcome.{Outcome}
 use Rattle.bet_sizing.specs.declared.Outcome.the-variants.{Unwritten, Written}
+use Rattle.budget.specs.Budget.{BetSizeBudget, budgetRefusal}
 
 -- no refusal has the number 0, so 0 stands for none
 abbrev pub spansNumber : Outcome → ℕ

@@ -40,6 +40,6 @@ pub extern "C" fn woddirme_bet_size_budget(
 ) -> u64
     ensures { λ r. ⌜ BudgetLeaves (now (starts .entry)) (now (ends .entry)) (now (sides .entry)) (now (size .entry)) (now (size .exit)) r ⌝ }
 {
-    let o = bet_sizing::bet_size_budget(starts, ends, sides, size);
+    let o = budget::bet_size_budget(starts, ends, sides, size);
     number_of(o)
 }

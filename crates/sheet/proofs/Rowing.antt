@@ -9,14 +9,14 @@ use borrow.Author.Tests.{le-leb, le-ltb, eq-eqb}
 use lib.IntN.{ℤ, pos}
 use lib.Ieee.{Float, nan, binary64, toBits, toUnsigned, inFloat}
 use lib.Ieee.Back.{unsigned-back}
-use lib.ListN.{length, take, getD}
+use lib.ListN.{length, take, getD, length-map, List·getD-append}
 use lib.Seq.{take-suc}
-use Rattle.bet_sizing.specs.Budget.{budgetSize}
 use Rattle.bet_sizing.specs.Counts.{concurrent, live, onSide, whole}
-use Rattle.bet_sizing.specs.Refusals.{ConcurrentSides, BetSizeBudget, spansRefusal, listAfter}
+use Rattle.bet_sizing.specs.Refusals.{ConcurrentSides, spansRefusal, listAfter}
 use Rattle.bet_sizing.specs.declared.Outcome.{Outcome}
+use Rattle.bet_sizing.proofs.Filling.{map-at}
 use Rattle.bet_sizing.proofs.Ranks.{indicator-le}
-use Rattle.bet_sizing.proofs.Sizing.{map-at}
+use Rattle.budget.specs.Budget.{BetSizeBudget, budgetSize}
 use Rattle.text.specs.Print.{Placed}
 use Rattle.text.proofs.Placing.{Front, front-none, front-then}
 use Rattle.sheet_forms.proofs.Rows.{row-short}
@@ -75,7 +75,8 @@ none n e d room p q few h = rw (eq-eqb e n (sym p), eq-eqb d n (sym q), le-ltb 1
 
 written : (f : ℤ → Float) (ss : List ℤ) (new old : List Float) (k : ℕ) → k ≡ 0 → new ≡ listAfter k (length ss) (map f ss) old
     → (i : ℕ) → i < length ss → getD new i nan ≡ f (getD ss i (pos 0))
-written f ss new old zero z e i h = ap (λ (x : List Float). getD x i nan) e ∙ map-at f ss _ i h
+written f ss new old zero z e i h =
+    ap (λ (x : List Float). getD x i nan) e ∙ List·getD-append (map f ss) _ nan i (omega (arith, length-map ss f)) ∙ map-at f ss i h
 written f ss new old (suc k) z e i h = absurd (omega arith)
 
 module _ {ss es : List ℤ} {ds long long′ short short′ size size′ : List Float} {out : List ℕ} {r r′ : Outcome} where

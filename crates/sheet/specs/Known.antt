@@ -5,7 +5,9 @@ use mathlib.Core.Path.{_≡_, refl}
 use mathlib.Core.List.{List, [], _∷_, _++_}
 use lib.IntN.{pos, negsuc}
 use lib.Ieee.{ofBits, toBits, ofInt, lt, div, sub, round, units, odd, size, sum, add, neg, span, climb}
-use Rattle.bet_sizing.specs.Counts.{concurrent, maximum, whole}
+use Rattle.float.specs.Leaves.{largerOf}
+use Rattle.bet_sizing.specs.Counts.{concurrent, whole}
+use Rattle.budget.specs.Budget.{largestFrom}
 use Rattle.text.specs.Bytes.{bytes}
 use Rattle.text.specs.Decode.{word, nibble, numeral, natural, instant, hexes}
 use Rattle.text.specs.Print.{width, decimal, hex, shown}
@@ -21,7 +23,7 @@ worked : countSheet
     ≡ bytes "(row (at 0) (long 1) (short 0) (size 3ff0000000000000))\n"
     ++ bytes "(row (at 5) (long 1) (short 1) (size 0000000000000000))\n"
     ++ bytes "(row (at 10) (long 1) (short 1) (size 0000000000000000))\n"
-unfolding word nibble numeral natural instant hexes spanForm lineForm lines sheet width decimal hex shown rowLine rowAt textOf concurrent maximum whole lt ofBits toBits ofInt div sub add neg sum round units odd size span climb
+unfolding word nibble numeral natural instant hexes spanForm lineForm lines sheet width decimal hex shown rowLine rowAt textOf concurrent largestFrom largerOf whole lt ofBits toBits ofInt div sub add neg sum round units odd size span climb
 worked = refl
 
 empty : countSheet [] ≡ []

@@ -6,8 +6,8 @@ use mathlib.Core.List.{List}
 use lib.IntN.{ℤ, pos}
 use lib.Ieee.{Float, nan}
 use lib.ListN.{length, getD}
-use Rattle.bet_sizing.specs.Budget.{budgetSize}
 use Rattle.bet_sizing.specs.Counts.{concurrent, whole}
+use Rattle.budget.specs.Budget.{budgetSize}
 
 -- as many ends and sides as starts, few enough, and room for their rows
 pub record Countable (ss es : List ℤ) (ds : List Float) (out : List ℕ) : Type 0 where

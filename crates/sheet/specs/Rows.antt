@@ -4,8 +4,8 @@ use mathlib.Core.Bool.{true, false}
 use mathlib.Core.List.{List, [], _∷_, _++_}
 use lib.IntN.{ℤ}
 use lib.Ieee.{Float, binary64, toBits}
-use Rattle.bet_sizing.specs.Budget.{budgetSize}
 use Rattle.bet_sizing.specs.Counts.{concurrent}
+use Rattle.budget.specs.Budget.{budgetSize}
 use Rattle.sheet_forms.specs.Forms.{rowLine}
 
 -- the row at t

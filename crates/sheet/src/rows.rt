@@ -37,6 +37,6 @@ pub(crate) fn put(starts: &[i64], ends: &[i64], sides: &[f64], out: &mut [u8]) -
     let mut short = [0.0f64; 1024];
     let mut size = [0.0f64; 1024];
     bet_sizing::get_concurrent_sides(starts, ends, sides, &mut long, &mut short);
-    bet_sizing::bet_size_budget(starts, ends, sides, &mut size);
+    budget::bet_size_budget(starts, ends, sides, &mut size);
     put_rows(starts, ends, sides, &long, &short, &size, out)
 }

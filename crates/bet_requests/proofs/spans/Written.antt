@@ -9,9 +9,10 @@ use lib.Dec.{eqb, ltb}
 use lib.IntN.{ℤ}
 use lib.Ieee.{Float}
 use lib.ListN.{length}
-use Rattle.bet_sizing.specs.Refusals.{BetSizeBudget, ConcurrentSides, outcome}
+use Rattle.bet_sizing.specs.Refusals.{ConcurrentSides, outcome}
 use Rattle.bet_sizing.specs.declared.Outcome.{Outcome}
 use Rattle.bet_sizing.specs.declared.Outcome.the-variants.{Written}
+use Rattle.budget.specs.Budget.{BetSizeBudget}
 
 by-tests : (n room k : ℕ) (unequal many short : Bool) → ltb room n ≡ short → outcome (cond unequal 10 (cond many 11 (cond short 8 0))) n ≡ Written k → k ≤ room
 by-tests n room k true many short h e = let z : _≡_ {A = ℕ} 0 1 = cc in omega arith
