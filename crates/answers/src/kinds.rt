@@ -3,8 +3,8 @@
 use bet_requests::spans;
 use fit_requests::runs;
 use fit_requests::searches;
+use moment_requests::orders;
 use number_requests::leaves;
-use number_requests::orders;
 use price_requests::curves;
 use replies::Reply;
 use step_requests::steps;

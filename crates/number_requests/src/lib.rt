@@ -1,4 +1,3 @@
-// Requests of numbers: the number leaves, and moments. A kind has one function from a line to its
-// reply; to a line of another kind it replies `Bad`.
+// Requests of the number leaves. A kind has one function from a line to its reply; to a line of
+// another kind it replies `Bad`.
 pub mod leaves; // leaves.rt: the number leaves
-pub mod orders; // orders.rt: moments and their orders

@@ -1,13 +1,13 @@
 -- A list in a request, as it was read into places that may be fewer: its values, and those that had a place. By cases on what was read, and by induction on the values. Assumes nothing.
-use Prim.Native.Nat.{ℕ, suc, _-_, _^_, min}
+use Prim.Native.Nat.{ℕ, suc, _-_, _^_, _<_, min}
 use mathlib.Core.Path.{_≡_, refl, sym, _∙_, ap}
 use mathlib.Core.Bool.{Bool, true, false}
 use mathlib.Core.List.{List, [], _∷_}
 use native.Mathlib.Omega.{arith}
 use borrow.Author.Tests.{leb-true, leb-false}
 use lib.Dec.{leb}
-use lib.ListN.{length, set, take}
-use lib.Seq.{sets, take-all, take-length, take-nil}
+use lib.ListN.{drop, drop-of-length-le, length, set, take}
+use lib.Seq.{length-take-le, sets, take-all, take-nil}
 use Rattle.text.specs.Decode.{Got, got, bad, _▷_}
 use Rattle.protocol.specs.Words.{nextNatural}
 use Rattle.protocol_lists.specs.Lists.{aList, entriesOf, inFront, listIn, listOf, many, orNone, valuesOf}
@@ -28,19 +28,42 @@ module _ {A : Type 0} where
   front (a ∷ vs) [] = rw (no-place vs 1)
   front (a ∷ vs) (o ∷ old) = rw (behind vs a old 0) (ap (λ (l : List A). a ∷ l) (front vs old))
 
-  -- as many as protocol::least answers
-  by-room : (n : ℕ) (m : List A) (room : Bool) → leb n (length m) ≡ room → take (min n (length m)) m ≡ take n m
-  by-room n m true h =
+-- ---- a part that begins or ends at n, or at the end of the list where n is past it, as protocol::least answers k
+module _ {A : Type 0} (k n : ℕ) (m : List A) (e : k ≡ min n (length m)) where
+  take-by : (room : Bool) → leb n (length m) ≡ room → take k m ≡ take n m
+  take-by true h =
       let l = leb-true n (length m) h in
-      let e : min n (length m) ≡ n = omega arith in
-      rw e
-  by-room n m false h =
+      let same : k ≡ n = omega arith in
+      rw same
+  take-by false h =
       let l = leb-false n (length m) h in
-      let e : min n (length m) ≡ length m = omega arith in
-      rw e (take-length m ∙ sym (take-all n m (omega arith)))
+      take-all k m (omega arith) ∙ sym (take-all n m (omega arith))
 
-  pub take-least : (n : ℕ) (m : List A) → take (min n (length m)) m ≡ take n m
-  take-least n m = by-room n m (leb n (length m)) refl
+  drop-by : (room : Bool) → leb n (length m) ≡ room → drop k m ≡ drop n m
+  drop-by true h =
+      let l = leb-true n (length m) h in
+      let same : k ≡ n = omega arith in
+      rw same
+  drop-by false h =
+      let l = leb-false n (length m) h in
+      drop-of-length-le m {i = k} (omega arith) ∙ sym (drop-of-length-le m {i = n} (omega arith))
+
+  pub take-least : take k m ≡ take n m
+  take-least = take-by (leb n (length m)) refl
+
+  pub drop-least : drop k m ≡ drop n m
+  drop-least = drop-by (leb n (length m)) refl
+
+-- ---- what is the same for every list of more than n entries can be asked of n + 1 of them
+module _ {A B : Type 0} (n : ℕ) (f : List A → B) (x : B) (same : (m : List A) → n < length m → f m ≡ x) where
+  by-length : (m : List A) (fits : Bool) → leb (length m) (suc n) ≡ fits → f (take (suc n) m) ≡ f m
+  by-length m true h = ap f (take-all (suc n) m (leb-true (length m) (suc n) h))
+  by-length m false h =
+      let l = leb-false (length m) (suc n) h in
+      same (take (suc n) m) (omega (arith, length-take-le (suc n) m (omega arith))) ∙ sym (same m (omega arith))
+
+  pub cut : (m : List A) → f (take (suc n) m) ≡ f m
+  cut m = by-length m (leb (length m) (suc n)) refl
 
 -- ---- the list from t on, as protocol_lists::read_next_list and read_next_instants read it
 module _ {A : Type 0} (form : List ℕ → Got A) where

@@ -1,11 +1,11 @@
--- `number_requests::orders::raw_reply` meets its contract: the parts have as many numbers as were asked for, and what is written has room there. Assumes nothing.
-use mathlib.Core.Path.{sym, _∙_}
+-- `moment_requests::orders::raw_reply` meets its contract: the parts have as many numbers as were asked for, and behind what is written the list is as it was. Assumes nothing.
+use mathlib.Core.Path.{sym}
 use native.Mathlib.Omega.{arith}
 use borrow.Author.Needs.{needs}
 use lib.Seq.{length-take-le}
-use Rattle.number_requests.proofs.orders.Written.{written-fits}
-use Rattle.number_requests.proofs.orders.raw_reply.Statement.{statement}
-use Rattle.number_requests.proofs.orders.raw_reply.Tie as tie
+use Rattle.protocol_lists.proofs.Listing.{drop-least, take-least}
+use Rattle.moment_requests.proofs.orders.raw_reply.Statement.{statement}
+use Rattle.moment_requests.proofs.orders.raw_reply.Tie as tie
 
 least-requires : tie.Need-least-requires
 least-requires c κs = search needs
@@ -35,7 +35,12 @@ same-length : tie.Need-same-length
 same-length c = search needs
 
 returns : tie.Need-returns
-returns c = search needs
+returns c =
+    let d = c .before .before .before .before .before in
+    let l = d .before .before .before in (
+      rw (← take-least _ _ _ (l .before .least .ensures), ← take-least _ _ _ (l .least2 .ensures), ← d .raw-moment .ensures .0, c .before .r .given .1),
+      rw (← take-least _ _ _ (l .before .least .ensures), ← take-least _ _ _ (l .least2 .ensures), ← drop-least _ _ _ (l .least2 .ensures), ← d .raw-moment .ensures .1),
+    )
 
 same-length-2 : tie.Need-same-length-2
 same-length-2 c = search needs
@@ -43,8 +48,10 @@ same-length-2 c = search needs
 returns-2 : tie.Need-returns-2
 returns-2 c =
     let d = c .before .before .before .before .before in
-    let l = d .before .before .before in
-    omega (arith, length-take-le (l .least2 .result) (l .before .before .before .before .args .xs .now) (omega arith), written-fits _ _ _ (sym (d .raw-moment .ensures .0) ∙ c .before .r2 .given .1))
+    let l = d .before .before .before in (
+      rw (← take-least _ _ _ (l .before .least .ensures), ← take-least _ _ _ (l .least2 .ensures), ← d .raw-moment .ensures .0, c .before .r2 .given .1),
+      rw (← take-least _ _ _ (l .before .least .ensures), ← take-least _ _ _ (l .least2 .ensures), ← drop-least _ _ _ (l .least2 .ensures), ← d .raw-moment .ensures .1),
+    )
 
 pub raw-reply-spec : {M : Type 1} → statement M
 raw-reply-spec =

@@ -1,10 +1,11 @@
--- `number_requests::orders::centred_reply` meets its contract: the part has as many numbers as were asked for. Assumes nothing.
+-- `moment_requests::orders::centred_reply` meets its contract: the part has as many moments as were asked for. Assumes nothing.
 use mathlib.Core.Path.{sym}
 use native.Mathlib.Omega.{arith}
 use borrow.Author.Needs.{needs}
 use lib.Seq.{length-take-le}
-use Rattle.number_requests.proofs.orders.centred_reply.Statement.{statement}
-use Rattle.number_requests.proofs.orders.centred_reply.Tie as tie
+use Rattle.protocol_lists.proofs.Listing.{take-least}
+use Rattle.moment_requests.proofs.orders.centred_reply.Statement.{statement}
+use Rattle.moment_requests.proofs.orders.centred_reply.Tie as tie
 
 least-requires : tie.Need-least-requires
 least-requires c κs = search needs
@@ -22,10 +23,14 @@ enum-known-r-2 : tie.Need-enum-known-r-2
 enum-known-r-2 c = search needs
 
 returns : tie.Need-returns
-returns c = search needs
+returns c =
+    let d = c .before .before .before in
+    rw (← take-least _ _ _ (d .before .before .least .ensures), ← d .centered-moment .ensures, c .before .r .given .1)
 
 returns-2 : tie.Need-returns-2
-returns-2 c = search needs
+returns-2 c =
+    let d = c .before .before .before in
+    rw (← take-least _ _ _ (d .before .before .least .ensures), ← d .centered-moment .ensures, c .before .r2 .given .1)
 
 pub centred-reply-spec : {M : Type 1} → statement M
 centred-reply-spec =

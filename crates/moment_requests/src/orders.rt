@@ -1,7 +1,11 @@
 // Requests of moments. The function of each takes the request and the place after its name. A list
 // longer than 16 is read, and refused by the library.
-ghost use Rattle.replies.specs.Replies.{ListedIn, Unlisted};
-ghost use lib.ListN.{length};
+ghost use mathlib.Core.Path.{_≡_};
+ghost use mathlib.Core.List.{_++_};
+ghost use lib.ListN.{drop, take};
+ghost use Rattle.moments.specs.Refusals as refusals;
+ghost use Rattle.moment_requests.specs.Orders.{centeredMoment, centredReply, getMoments, orders, ordersIn, rawMoment, rawMomentIn, rawReply};
+ghost use Rattle.replies.specs.Requests.{only, onlyOr};
 use moments::Centred;
 use moments::Params;
 use moments::Remade;
@@ -12,7 +16,8 @@ use text::Number;
 
 // An answer that is a list is left in xs.
 pub fn answer(s: &[u8], xs: &mut [f64]) -> Reply
-    ensures { λ r. ⌜ ListedIn (length (now (xs .entry))) r ⌝ }
+    ensures { λ r. ⌜ (r ≡ orders (now (xs .entry)) (now (s .entry)))
+        × (now (xs .exit) ≡ ordersIn (now (xs .entry)) (now (s .entry))) ⌝ }
 {
     if protocol::begins(s, b"get_moments ") {
         return get_moments(s, 11);
@@ -27,7 +32,7 @@ pub fn answer(s: &[u8], xs: &mut [f64]) -> Reply
 }
 
 fn get_moments(s: &[u8], at: usize) -> Reply
-    ensures { λ r. ⌜ Unlisted r ⌝ }
+    ensures { λ r. ⌜ r ≡ only (getMoments (drop at (now (s .entry)))) ⌝ }
 {
     let mut v = [0.0f64; 5];
     if !protocol_lists::read_rest(s, at, &mut v) {
@@ -42,9 +47,9 @@ fn get_moments(s: &[u8], at: usize) -> Reply
     }))
 }
 
-// n counts the list; 17 of it are enough to be refused.
+// n counts the list. 17 of it are enough, for more than 16 are refused whatever they are.
 fn centred_reply(m: &[f64], n: usize, order: usize) -> Reply
-    ensures { λ r. ⌜ Unlisted r ⌝ }
+    ensures { λ r. ⌜ r ≡ centredReply (refusals.centredMoment (take n (now (m .entry))) order) ⌝ }
 {
     let k = protocol::least(n, m.len());
     let r = moments::centered_moment(&m[..k], order);
@@ -55,7 +60,7 @@ fn centred_reply(m: &[f64], n: usize, order: usize) -> Reply
 }
 
 fn centered_moment(s: &[u8], at: usize) -> Reply
-    ensures { λ r. ⌜ Unlisted r ⌝ }
+    ensures { λ r. ⌜ r ≡ only (centeredMoment (drop at (now (s .entry)))) ⌝ }
 {
     let Number::Is(order, a) = protocol::read_next_natural(s, at, u64::MAX) else {
         return Reply::Bad;
@@ -64,14 +69,15 @@ fn centered_moment(s: &[u8], at: usize) -> Reply
     let List::Is(n, e) = protocol_lists::read_next_list(s, a, &mut m) else {
         return Reply::Bad;
     };
-    if e != s.len() {
+    if e < s.len() {
         return Reply::Bad;
     }
     centred_reply(&m, n, order as usize)
 }
 
 fn raw_reply(c: &[f64], n: usize, mean: f64, room: usize, xs: &mut [f64]) -> Reply
-    ensures { λ r. ⌜ ListedIn (length (now (xs .entry))) r ⌝ }
+    ensures { λ r. ⌜ (r ≡ rawReply (refusals.rawMoment (take n (now (c .entry))) (take room (now (xs .entry)))))
+        × (now (xs .exit) ≡ refusals.rawOut (take n (now (c .entry))) mean (take room (now (xs .entry))) ++ drop room (now (xs .entry))) ⌝ }
 {
     let k = protocol::least(n, c.len());
     let places = protocol::least(room, xs.len());
@@ -83,7 +89,8 @@ fn raw_reply(c: &[f64], n: usize, mean: f64, room: usize, xs: &mut [f64]) -> Rep
 }
 
 fn raw_moment(s: &[u8], at: usize, xs: &mut [f64]) -> Reply
-    ensures { λ r. ⌜ ListedIn (length (now (xs .entry))) r ⌝ }
+    ensures { λ r. ⌜ (r ≡ only (rawMoment (now (xs .entry)) (drop at (now (s .entry)))))
+        × (now (xs .exit) ≡ onlyOr (now (xs .entry)) (rawMomentIn (now (xs .entry)) (drop at (now (s .entry))))) ⌝ }
 {
     let Number::Is(room, a) = protocol::read_next_natural(s, at, u64::MAX) else {
         return Reply::Bad;
@@ -95,7 +102,7 @@ fn raw_moment(s: &[u8], at: usize, xs: &mut [f64]) -> Reply
     let List::Is(n, e) = protocol_lists::read_next_list(s, b, &mut c) else {
         return Reply::Bad;
     };
-    if e != s.len() {
+    if e < s.len() {
         return Reply::Bad;
     }
     raw_reply(&c, n, mean, room as usize, xs)

@@ -1,2 +1,0 @@
--- Laws of the module `orders`.
-pub mod Written
