@@ -23,13 +23,10 @@ abbrev pub stepping : ℕ → Stepping
 stepping reads = cond (eqb reads 4) iter4 iter5
 
 -- what a step answers, as a reply
-abbrev pub stepReply : step.Step → Reply
-stepReply (step.the-variants.Admitted p) = Parameters p
-stepReply step.the-variants.Inadmissible = Inadmissible
-
 abbrev pub iterateReply : iterate.Iterate → Reply
 iterateReply (iterate.the-variants.Refused n) = Refused n
-iterateReply (iterate.the-variants.Stepped t) = stepReply t
+iterateReply (iterate.the-variants.Stepped (step.the-variants.Admitted p)) = Parameters p
+iterateReply (iterate.the-variants.Stepped step.the-variants.Inadmissible) = Inadmissible
 
 -- the words after the moments
 abbrev pub stepFrom : Stepping → List Float → List ℕ → Got Reply

@@ -1,7 +1,7 @@
 // Requests of one step of the fit. A list longer than 16 is read, and refused by the library.
 ghost use mathlib.Core.Path.{_≡_};
 ghost use lib.ListN.{drop, take};
-ghost use Rattle.step_requests.specs.Steps.{iterateReply, oneStep, stepFrom, stepReply, stepping, steps};
+ghost use Rattle.step_requests.specs.Steps.{iterateReply, oneStep, stepFrom, stepping, steps};
 ghost use Rattle.replies.specs.Requests.{only};
 use iterate::Iterate;
 use protocol::Fraction;
@@ -64,15 +64,9 @@ fn reply(i: Iterate) -> Reply
 {
     match i {
         Iterate::Refused(number) => Reply::Refused(number),
-        Iterate::Stepped(t) => step_reply(t),
-    }
-}
-
-fn step_reply(t: Step) -> Reply
-    ensures { λ r. ⌜ r ≡ stepReply t ⌝ }
-{
-    match t {
-        Step::Admitted(p) => Reply::Parameters(p),
-        Step::Inadmissible => Reply::Inadmissible,
+        Iterate::Stepped(t) => match t {
+            Step::Admitted(p) => Reply::Parameters(p),
+            Step::Inadmissible => Reply::Inadmissible,
+        },
     }
 }

@@ -24,7 +24,7 @@ outcomeReply (outcome.the-variants.Ended count reason) m =
 abbrev pub walkedReply : walked.Walked → Reply
 walkedReply w = outcomeReply (w .outcome) (w .state)
 
--- the state that a walk begins from, of which the request gives n moments, epsilon, the step limit and the state's numbers x
+-- the state that a walk begins from: 16 moments of which n were given, epsilon, the step limit, and the numbers x of a STATE; a walk does not read the others
 abbrev pub stateFrom : ℕ → List Float → ℕ → Float → ℕ → List Float → M2N
 stateFrom variant moments n epsilon limit x = record {
   moments = moments;
@@ -49,7 +49,7 @@ walkFrom variant moments n = do
   x ← nextState
   reply (walkedReply (walkOf (stateFrom variant moments n epsilon limit x) mu p))
 
--- the state has room for 16 moments, and zeros where none is given
+-- the state has the moments in front of zeros, as far as there is room for them
 abbrev pub walk : List ℕ → Got Reply
 walk = do
   variant ← nextNatural (2 ^ 64 - 1)

@@ -1,7 +1,7 @@
 // The request of a walk. A list longer than 16 is read, and refused by the library.
 ghost use mathlib.Core.Path.{_≡_};
 ghost use lib.ListN.{drop};
-ghost use Rattle.walk_requests.specs.Walks.{outcomeReply, walk, walkFrom, walkedReply, walks};
+ghost use Rattle.walk_requests.specs.Walks.{walk, walkFrom, walkedReply, walks};
 ghost use Rattle.replies.specs.Requests.{only};
 use protocol::Fraction;
 use protocol_lists::List;
@@ -80,22 +80,16 @@ fn reply(w: Walked) -> Reply
 {
     let m = w.state;
     let o = w.outcome;
-    match o {
-        Outcome::Refused(number) => Reply::Refused(number),
-        Outcome::Ended(count, reason) => report(m, count, reason),
-    }
-}
-
-fn report(m: M2N, count: usize, reason: u64) -> Reply
-    ensures { λ r. ⌜ r ≡ outcomeReply (Outcome.Ended count reason) m ⌝ }
-{
     let parameters = m.parameters;
     let new_moments = m.new_moments;
-    Reply::Walked(Report {
-        count: count as u64,
-        reason: reason,
-        parameters: parameters,
-        error: m.error,
-        new_moments: new_moments,
-    })
+    match o {
+        Outcome::Refused(number) => Reply::Refused(number),
+        Outcome::Ended(count, reason) => Reply::Walked(Report {
+            count: count as u64,
+            reason: reason,
+            parameters: parameters,
+            error: m.error,
+            new_moments: new_moments,
+        }),
+    }
 }

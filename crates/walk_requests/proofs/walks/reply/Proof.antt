@@ -9,14 +9,11 @@ enum-known-o c = search needs
 enum-known-o-2 : tie.Need-enum-known-o-2
 enum-known-o-2 c = search needs
 
-report-requires : tie.Need-report-requires
-report-requires c κs = search needs
-
 returns : tie.Need-returns
 returns c = rw (c .before .o .given .1)
 
 returns-2 : tie.Need-returns-2
-returns-2 c = rw (c .before .before .o2 .given .1) (c .report .ensures)
+returns-2 c = rw (c .before .o2 .given .1)
 
 pub reply-spec : {M : Type 1} → statement M
-reply-spec = tie.close (tie.spec enum-known-o enum-known-o-2 report-requires returns returns-2)
+reply-spec = tie.close (tie.spec enum-known-o enum-known-o-2 returns returns-2)

@@ -1,8 +1,8 @@
 -- `walk_requests::walks::walk` meets its contract, by whether the variant and the list of moments are there. Assumes nothing.
 use borrow.Author.Needs.{needs}
+use lib.Ieee.{ofBits}
 use Rattle.protocol.specs.Words.{nextFraction}
 use Rattle.protocol_lists.proofs.Listing.{list-got, list-long, no-list}
-use Rattle.walk_requests.proofs.Zero.{zero-is}
 use Rattle.walk_requests.proofs.walks.walk.Statement.{statement}
 use Rattle.walk_requests.proofs.walks.walk.Tie as tie
 
@@ -40,12 +40,13 @@ walk-from-requires : tie.Need-walk-from-requires
 walk-from-requires c κs = search needs
 
 returns-3 : tie.Need-returns-3
+unfolding ofBits
 returns-3 c =
     let n = c .before .before in
     let l = n .before .before .before in
     let v = l .before .before .before in
     let e = rw (n .n .given .1) at (l .read-next-list .ensures .0) in
-    rw (v .before .before .read-next-natural .ensures, v .variant .given .1, list-got nextFraction _ _ _ e, list-long nextFraction _ _ _ e, c .walk-from .ensures, l .read-next-list .ensures .1, zero-is)
+    rw (v .before .before .read-next-natural .ensures, v .variant .given .1, list-got nextFraction _ _ _ e, list-long nextFraction _ _ _ e, c .walk-from .ensures, l .read-next-list .ensures .1)
 
 pub walk-spec : {M : Type 1} → statement M
 walk-spec =

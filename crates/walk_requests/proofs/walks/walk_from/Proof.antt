@@ -1,7 +1,7 @@
 -- `walk_requests::walks::walk_from` meets its contract, by whether each word is there, and nothing after them. Assumes nothing.
 use borrow.Author.Needs.{needs}
+use lib.Ieee.{ofBits}
 use Rattle.replies.proofs.Asking.{ended, not-ended}
-use Rattle.walk_requests.proofs.Zero.{zero-is}
 use Rattle.walk_requests.proofs.walks.walk_from.Statement.{statement}
 use Rattle.walk_requests.proofs.walks.walk_from.Tie as tie
 
@@ -95,13 +95,14 @@ reply-requires : tie.Need-reply-requires
 reply-requires c κs = search needs
 
 returns-7 : tie.Need-returns-7
+unfolding ofBits
 returns-7 c =
     let z = c .before .before .before .before in
     let k = z .before .before .before .before in
     let y = k .before .before .before .before in
     let p = y .before .before .before .before in
     let x = p .before .before .before .before in
-    rw (x .before .before .read-next-fraction .ensures, x .mu-2 .given .1, p .before .before .read-next-fraction2 .ensures, p .p-1 .given .1, y .before .before .read-next-fraction3 .ensures, y .epsilon .given .1, k .before .before .read-next-natural .ensures, k .max-iter .given .1, z .before .before .read-next-state .ensures, z .parameters .given .1, c .reply .ensures, c .before .iterate-from .ensures, zero-is) (ended _ _ _ _ (c .before .before .if1 .left))
+    rw (x .before .before .read-next-fraction .ensures, x .mu-2 .given .1, p .before .before .read-next-fraction2 .ensures, p .p-1 .given .1, y .before .before .read-next-fraction3 .ensures, y .epsilon .given .1, k .before .before .read-next-natural .ensures, k .max-iter .given .1, z .before .before .read-next-state .ensures, z .parameters .given .1, c .reply .ensures, c .before .iterate-from .ensures) (ended _ _ _ _ (c .before .before .if1 .left))
 
 pub walk-from-spec : {M : Type 1} → statement M
 walk-from-spec =
