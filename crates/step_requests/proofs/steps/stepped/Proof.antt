@@ -18,7 +18,7 @@ iter-4-requires : tie.Need-iter-4-requires
 iter-4-requires c κs = search needs
 
 returns : tie.Need-returns
-returns c = rw (c .before .before .if1 .taken, c .iter-4 .ensures, c .before .before .before .least .ensures, take-least)
+returns c = rw (c .before .before .if1 .taken, c .iter-4 .ensures, take-least _ _ _ (c .before .before .before .least .ensures))
 
 slice-aggregate-iter-5 : tie.Need-slice-aggregate-iter-5
 slice-aggregate-iter-5 c = sym (length-take-le _ _ (omega arith))
@@ -29,7 +29,7 @@ iter-5-requires c κs = search needs
 returns-2 : tie.Need-returns-2
 returns-2 c =
     let d = c .before .before in
-    rw (ne-eqb _ _ (d .if1 .left), c .iter-5 .ensures, d .before .least .ensures, take-least)
+    rw (ne-eqb _ _ (d .if1 .left), c .iter-5 .ensures, take-least _ _ _ (d .before .least .ensures))
 
 pub stepped-spec : {M : Type 1} → statement M
 stepped-spec =
