@@ -1,2 +1,3 @@
 -- Laws of the module `spans`.
-pub mod Written
+pub mod Asking
+pub mod Columns

@@ -1,8 +1,12 @@
 // Requests of the counts and the budget over spans. A side has 17 bytes of a line, so a line has
 // fewer than 4,096 of them. More starts or ends are unequal to them in number, also when cut to their
 // 4,096 places.
-ghost use Rattle.replies.specs.Replies.{ListedIn};
-ghost use lib.ListN.{length};
+ghost use Prim.Native.Nat.{_≤_};
+ghost use mathlib.Core.List.{_++_};
+ghost use mathlib.Core.Path.{_≡_};
+ghost use lib.ListN.{drop, length};
+ghost use Rattle.bet_requests.specs.Spans.{askedOf, leftBy, replyOf, sidesIn, sidesReply, sizesIn, sizesReply, spans, spansIn, words};
+ghost use Rattle.replies.specs.Requests.{only, onlyOr};
 use bet_sizing::Outcome;
 use protocol_lists::List;
 use replies::Reply;
@@ -11,58 +15,20 @@ use text::Number;
 
 // The fractions of an answer are left in xs.
 pub fn answer(s: &[u8], xs: &mut [f64]) -> Reply
-    ensures { λ r. ⌜ ListedIn (length (now (xs .entry))) r ⌝ }
+    ensures { λ r. ⌜ (r ≡ spans (length (now (xs .entry))) (now (s .entry)))
+        × (now (xs .exit) ≡ spansIn (now (xs .entry)) (now (s .entry))) ⌝ }
 {
     if protocol::begins(s, b"concurrent_sides ") {
-        return concurrent_sides(s, 16, xs);
+        return request(s, 16, true, xs);
     }
     if protocol::begins(s, b"budget ") {
-        return budget(s, 6, xs);
+        return request(s, 6, false, xs);
     }
     Reply::Bad
 }
 
-// The room that is asked for, how many starts, ends and sides there are, and the place before the
-// starts.
-struct Given {
-    room: usize,
-    starts: usize,
-    ends: usize,
-    sides: usize,
-    from: usize,
-}
-
-enum Asked {
-    Is(Given),
-    No,
-}
-
-// The rest of a request.
-fn read(s: &[u8], at: usize, starts: &mut [i64], ends: &mut [i64], sides: &mut [f64]) -> Asked {
-    let Number::Is(room, a) = protocol::read_next_natural(s, at, u64::MAX) else {
-        return Asked::No;
-    };
-    let List::Is(n_starts, b) = protocol_lists::read_next_instants(s, a, starts) else {
-        return Asked::No;
-    };
-    let List::Is(n_ends, c) = protocol_lists::read_next_instants(s, b, ends) else {
-        return Asked::No;
-    };
-    let List::Is(n_sides, e) = protocol_lists::read_next_list(s, c, sides) else {
-        return Asked::No;
-    };
-    if e != s.len() {
-        return Asked::No;
-    }
-    Asked::Is(Given {
-        room: room as usize,
-        starts: n_starts,
-        ends: n_ends,
-        sides: n_sides,
-        from: a,
-    })
-}
-
+// The places that lists are read into. Functions, so that a proof takes what they answer as any list of
+// 4,096 places.
 fn instants_room() -> [i64; 4096] {
     [0i64; 4096]
 }
@@ -71,121 +37,123 @@ fn fractions_room() -> [f64; 4096] {
     [0.0f64; 4096]
 }
 
-// Copies as many as both lists have.
-fn copy(x: &[f64], y: &mut [f64]) {
-    let n = protocol::least(x.len(), y.len());
+// The reply by the words from a place on. The counts are asked for, or else the sizes.
+fn request(s: &[u8], at: usize, counts: bool, xs: &mut [f64]) -> Reply
+    ensures { λ r. ⌜ (r ≡ only (words (replyOf counts (length (now (xs .entry)))) (length (now (s .entry))) (drop at (now (s .entry)))))
+        × (now (xs .exit) ≡ onlyOr (now (xs .entry)) (words (leftBy counts (now (xs .entry))) (length (now (s .entry))) (drop at (now (s .entry))))) ⌝ }
+{
+    let Number::Is(room, a) = protocol::read_next_natural(s, at, u64::MAX) else {
+        return Reply::Bad;
+    };
+    let mut starts = instants_room();
+    let List::Is(n_starts, b) = protocol_lists::read_next_instants(s, a, &mut starts) else {
+        return Reply::Bad;
+    };
+    let mut ends = instants_room();
+    let List::Is(n_ends, c) = protocol_lists::read_next_instants(s, b, &mut ends) else {
+        return Reply::Bad;
+    };
+    let mut sides = fractions_room();
+    let List::Is(n_sides, e) = protocol_lists::read_next_list(s, c, &mut sides) else {
+        return Reply::Bad;
+    };
+    if e < s.len() {
+        return Reply::Bad;
+    }
+    let i = protocol::least(n_starts, 4096);
+    let j = protocol::least(n_ends, 4096);
+    let k = protocol::least(n_sides, 4096);
+    spans_reply(
+        counts,
+        &starts[..i],
+        &ends[..j],
+        &sides[..k],
+        room as usize,
+        a,
+        xs,
+    )
+}
+
+fn spans_reply(
+    counts: bool,
+    starts: &[i64],
+    ends: &[i64],
+    sides: &[f64],
+    room: usize,
+    from: usize,
+    xs: &mut [f64],
+) -> Reply
+    requires { ⌜ length (now starts) ≤ 4096 ⌝ }
+    ensures { λ r. ⌜ (r ≡ replyOf counts (length (now (xs .entry))) (askedOf room from (now (starts .entry)) (now (ends .entry)) (now (sides .entry))))
+        × (now (xs .exit) ≡ leftBy counts (now (xs .entry)) (askedOf room from (now (starts .entry)) (now (ends .entry)) (now (sides .entry)))) ⌝ }
+{
+    if counts {
+        return sides_reply(starts, ends, sides, room, from, xs);
+    }
+    sizes_reply(starts, ends, sides, room, from, xs)
+}
+
+// The counts of longs go into the first half of xs, those of shorts into the second.
+fn sides_reply(
+    starts: &[i64],
+    ends: &[i64],
+    sides: &[f64],
+    room: usize,
+    from: usize,
+    xs: &mut [f64],
+) -> Reply
+    requires { ⌜ length (now starts) ≤ 4096 ⌝ }
+    ensures { λ r. ⌜ (r ≡ sidesReply (length (now (xs .entry))) (askedOf room from (now (starts .entry)) (now (ends .entry)) (now (sides .entry))))
+        × (now (xs .exit) ≡ sidesIn (now (xs .entry)) (askedOf room from (now (starts .entry)) (now (ends .entry)) (now (sides .entry)))) ⌝ }
+{
+    let half = xs.len() / 2;
+    let places = protocol::least(room, half);
+    let mut short = fractions_room();
+    let r = bet_sizing::get_concurrent_sides(starts, ends, sides, &mut xs[..places], &mut short);
+    match r {
+        Outcome::Unwritten(number) => Reply::Refused(number),
+        Outcome::Written(count) => {
+            copy(&short[..count], &mut xs[half..]);
+            Reply::Spanned(SpanRows {
+                count: count,
+                columns: 2,
+                starts: from,
+            })
+        }
+    }
+}
+
+// Copies x to the front of y.
+fn copy(x: &[f64], y: &mut [f64])
+    requires { ⌜ length (now x) ≤ length (now y) ⌝ }
+    ensures { λ _. ⌜ now (y .exit) ≡ now (x .entry) ++ drop (length (now (x .entry))) (now (y .entry)) ⌝ }
+{
     let mut i = 0;
-    while i < n {
+    while i < x.len() {
         y[i] = x[i];
         i += 1;
     }
 }
 
-// The counts of longs go into the first half of xs, those of shorts into the second.
-fn sides_reply(
-    g: Given,
+fn sizes_reply(
     starts: &[i64],
     ends: &[i64],
     sides: &[f64],
-    short: &mut [f64],
+    room: usize,
+    from: usize,
     xs: &mut [f64],
 ) -> Reply
-    ensures { λ r. ⌜ ListedIn (length (now (xs .entry))) r ⌝ }
+    ensures { λ r. ⌜ (r ≡ sizesReply (length (now (xs .entry))) (askedOf room from (now (starts .entry)) (now (ends .entry)) (now (sides .entry))))
+        × (now (xs .exit) ≡ sizesIn (now (xs .entry)) (askedOf room from (now (starts .entry)) (now (ends .entry)) (now (sides .entry)))) ⌝ }
 {
-    let n_starts = protocol::least(g.starts, starts.len());
-    let n_ends = protocol::least(g.ends, ends.len());
-    let n_sides = protocol::least(g.sides, sides.len());
-    let half = xs.len() / 2;
-    let room = protocol::least(g.room, protocol::least(short.len(), half));
-    let r = bet_sizing::get_concurrent_sides(
-        &starts[..n_starts],
-        &ends[..n_ends],
-        &sides[..n_sides],
-        &mut xs[..room],
-        &mut short[..room],
-    );
-    copy(short, &mut xs[half..]);
-    match r {
-        Outcome::Unwritten(number) => Reply::Refused(number),
-        Outcome::Written(count) => Reply::Spanned(SpanRows {
-            count: count,
-            columns: 2,
-            starts: g.from,
-        }),
-    }
-}
-
-fn read_sides(
-    s: &[u8],
-    at: usize,
-    starts: &mut [i64],
-    ends: &mut [i64],
-    sides: &mut [f64],
-    short: &mut [f64],
-    xs: &mut [f64],
-) -> Reply
-    ensures { λ r. ⌜ ListedIn (length (now (xs .entry))) r ⌝ }
-{
-    let Asked::Is(g) = read(s, at, starts, ends, sides) else {
-        return Reply::Bad;
-    };
-    sides_reply(g, starts, ends, sides, short, xs)
-}
-
-fn concurrent_sides(s: &[u8], at: usize, xs: &mut [f64]) -> Reply
-    ensures { λ r. ⌜ ListedIn (length (now (xs .entry))) r ⌝ }
-{
-    let mut starts = instants_room();
-    let mut ends = instants_room();
-    let mut sides = fractions_room();
-    let mut short = fractions_room();
-    read_sides(s, at, &mut starts, &mut ends, &mut sides, &mut short, xs)
-}
-
-fn sizes_reply(g: Given, starts: &[i64], ends: &[i64], sides: &[f64], xs: &mut [f64]) -> Reply
-    ensures { λ r. ⌜ ListedIn (length (now (xs .entry))) r ⌝ }
-{
-    let n_starts = protocol::least(g.starts, starts.len());
-    let n_ends = protocol::least(g.ends, ends.len());
-    let n_sides = protocol::least(g.sides, sides.len());
-    let room = protocol::least(g.room, xs.len());
-    let r = budget::bet_size_budget(
-        &starts[..n_starts],
-        &ends[..n_ends],
-        &sides[..n_sides],
-        &mut xs[..room],
-    );
+    let places = protocol::least(room, xs.len());
+    let r = budget::bet_size_budget(starts, ends, sides, &mut xs[..places]);
     match r {
         Outcome::Unwritten(number) => Reply::Refused(number),
         Outcome::Written(count) => Reply::Spanned(SpanRows {
             count: count,
             columns: 1,
-            starts: g.from,
+            starts: from,
         }),
     }
-}
-
-fn read_sizes(
-    s: &[u8],
-    at: usize,
-    starts: &mut [i64],
-    ends: &mut [i64],
-    sides: &mut [f64],
-    xs: &mut [f64],
-) -> Reply
-    ensures { λ r. ⌜ ListedIn (length (now (xs .entry))) r ⌝ }
-{
-    let Asked::Is(g) = read(s, at, starts, ends, sides) else {
-        return Reply::Bad;
-    };
-    sizes_reply(g, starts, ends, sides, xs)
-}
-
-fn budget(s: &[u8], at: usize, xs: &mut [f64]) -> Reply
-    ensures { λ r. ⌜ ListedIn (length (now (xs .entry))) r ⌝ }
-{
-    let mut starts = instants_room();
-    let mut ends = instants_room();
-    let mut sides = fractions_room();
-    read_sizes(s, at, &mut starts, &mut ends, &mut sides, xs)
 }

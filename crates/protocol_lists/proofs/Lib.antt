@@ -1,3 +1,4 @@
 -- Laws that belong to no one function, on plain values.
 pub mod Listing
 pub mod Reading
+pub mod Values
