@@ -52,7 +52,7 @@ fn reply_to(line: &[u8], xs: &mut [f64], s: State) -> Reply {
 fn answer(line: &[u8], xs: &mut [f64], out: &mut [u8], s: State) -> State {
     let at = place(out, s.at);
     let r = reply_to(line, xs, s);
-    let to = replies::put(out, at, r, line, xs);
+    let to = printing::put(out, at, r, line, xs);
     State {
         len: 0,
         long: false,
@@ -108,7 +108,7 @@ pub(crate) fn take_in(
 // A last line with no newline is no request.
 pub(crate) fn end(out: &mut [u8], s: State) -> State {
     if 0 < s.len {
-        let to = replies::put_bad(out, 0);
+        let to = printing::put_bad(out, 0);
         flush(out, to);
     }
     State {

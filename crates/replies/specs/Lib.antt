@@ -1,4 +1,3 @@
 -- What the contracts of the replies say, and how the reply to a line is defined.
-pub mod Places
 pub mod Replies
 pub mod Requests

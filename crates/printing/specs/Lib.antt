@@ -1,0 +1,3 @@
+-- What a reply is printed as.
+pub mod Known
+pub mod Lines
