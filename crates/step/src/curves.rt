@@ -11,6 +11,7 @@ pub(crate) enum Curves {
     Inadmissible,
 }
 
+// It reads three moments, so it is the same whatever moments follow them.
 pub(crate) fn curves_from(m: Five, mu_2: f64, p_1: f64) -> Curves
     ensures { λ r. ⌜ ((ms : List Float) → CurvesFrom (mu_2 ∷ p_1 ∷ m .«m_1» ∷ m .«m_2» ∷ m .«m_3» ∷ ms) r) ⌝ }
 {
