@@ -24,14 +24,14 @@ outcomeReply (outcome.the-variants.Ended count reason) m =
 abbrev pub walkedReply : walked.Walked → Reply
 walkedReply w = outcomeReply (w .outcome) (w .state)
 
--- the state that a walk begins from: 16 moments of which n were given, epsilon, the step limit, and the numbers x of a STATE; a walk does not read the others
-abbrev pub stateFrom : ℕ → List Float → ℕ → Float → ℕ → List Float → M2N
-stateFrom variant moments n epsilon limit x = record {
+-- the state that a request gives: 16 moments of which n were given, epsilon, factor, how many runs, the step limit, and the numbers x of a STATE
+abbrev pub stateFrom : ℕ → List Float → ℕ → Float → Float → ℕ → ℕ → List Float → M2N
+stateFrom variant moments n epsilon factor runs limit x = record {
   moments = moments;
   len = n;
   epsilon = epsilon;
-  factor = nought;
-  «n_runs» = 1;
+  factor = factor;
+  «n_runs» = runs;
   variant = variant;
   «max_iter» = limit;
   «new_moments» = momentsAmong x;
@@ -39,7 +39,7 @@ stateFrom variant moments n epsilon limit x = record {
   error = getD x 5 nan;
 }
 
--- the words after the moments
+-- the words after the moments; a walk does not read the factor, nor how many runs
 abbrev pub walkFrom : ℕ → List Float → ℕ → List ℕ → Got Reply
 walkFrom variant moments n = do
   mu ← nextFraction
@@ -47,7 +47,7 @@ walkFrom variant moments n = do
   epsilon ← nextFraction
   limit ← nextNatural (2 ^ 64 - 1)
   x ← nextState
-  reply (walkedReply (walkOf (stateFrom variant moments n epsilon limit x) mu p))
+  reply (walkedReply (walkOf (stateFrom variant moments n epsilon nought 1 limit x) mu p))
 
 -- the state has the moments in front of zeros, as far as there is room for them
 abbrev pub walk : List ℕ → Got Reply
