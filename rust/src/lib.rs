@@ -14,7 +14,9 @@
 //! Every call goes to target/libwoddirme.a (include/woddirme.h); nothing is worked out here.
 
 pub mod bet_sizing;
-mod c;
+/// The C interface as it is, for the comparisons of oracle/ alone.
+#[doc(hidden)]
+pub mod c;
 pub mod ef3m;
 pub mod number;
 pub mod sheet;

@@ -46,11 +46,11 @@ fn request(s: &[u8], at: usize, counts: bool, xs: &mut [f64]) -> Reply
         return Reply::Bad;
     };
     let mut starts = instants_room();
-    let List::Is(n_starts, b) = protocol_lists::read_next_instants(s, a, &mut starts) else {
+    let List::Is(n_starts, b) = protocol_instants::read_next_instants(s, a, &mut starts) else {
         return Reply::Bad;
     };
     let mut ends = instants_room();
-    let List::Is(n_ends, c) = protocol_lists::read_next_instants(s, b, &mut ends) else {
+    let List::Is(n_ends, c) = protocol_instants::read_next_instants(s, b, &mut ends) else {
         return Reply::Bad;
     };
     let mut sides = fractions_room();

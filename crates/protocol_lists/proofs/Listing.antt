@@ -65,7 +65,7 @@ module _ {A B : Type 0} (n : ℕ) (f : List A → B) (x : B) (same : (m : List A
   pub cut : (m : List A) → f (take (suc n) m) ≡ f m
   cut m = by-length m (leb (length m) (suc n)) refl
 
--- ---- the list from t on, as protocol_lists::read_next_list and read_next_instants read it
+-- ---- the list from t on, as protocol_lists::read_next_list and protocol_instants::read_next_instants read it
 module _ {A : Type 0} (form : List ℕ → Got A) where
   -- its values
   abbrev pub listed : List ℕ → List A

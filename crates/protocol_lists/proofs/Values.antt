@@ -1,4 +1,4 @@
--- The values of a list by the answer r of protocol_lists::read_next_list or read_next_instants, which read it from the place a of s on into the list old, v after it. Assumes nothing.
+-- The values of a list by the answer r of protocol_lists::read_next_list or protocol_instants::read_next_instants, which read it from the place a of s on into the list old, v after it. Assumes nothing.
 use Prim.Native.Nat.{ℕ, min}
 use mathlib.Core.Path.{_≡_, sym, _∙_, ap}
 use mathlib.Core.List.{List}

@@ -1,7 +1,4 @@
 // Lists in a request, and the state that one begins from.
-pub mod instants; // instants.rt: lists of instants
-
-pub use instants::read_next_instants;
 ghost use mathlib.Core.Path.{_≡_};
 ghost use lib.ListN.{drop, length, set};
 ghost use Rattle.text.specs.Meaning.{nextIs};

@@ -19,8 +19,8 @@ use Rattle.bet_sizing.proofs.Ranks.{indicator-le}
 use Rattle.budget.specs.Budget.{BetSizeBudget, budgetSize}
 use Rattle.text.specs.Print.{Placed}
 use Rattle.text.proofs.Placing.{Front, front-none, front-then}
-use Rattle.sheet_forms.proofs.Rows.{row-short}
-use Rattle.sheet_forms.specs.Forms.{rowLine}
+use Rattle.sheet_rows.proofs.Rows.{row-short}
+use Rattle.sheet_rows.specs.Rows.{rowLine}
 use Rattle.sheet.specs.Meaning.{Countable, Rowable}
 use Rattle.sheet.specs.Rows.{rowAt, textOf}
 

@@ -11,7 +11,8 @@ use Rattle.budget.specs.Budget.{largestFrom}
 use Rattle.text.specs.Bytes.{bytes}
 use Rattle.text.specs.Decode.{word, nibble, numeral, natural, instant, hexes}
 use Rattle.text.specs.Print.{width, decimal, hex, shown}
-use Rattle.sheet_forms.specs.Forms.{spanForm, lineForm, rowLine, spanText, spanLines}
+use Rattle.sheet_forms.specs.Forms.{spanForm, lineForm, spanText, spanLines}
+use Rattle.sheet_rows.specs.Rows.{rowLine}
 use Rattle.sheet_read.specs.Sheet.{lines, sheet, accepted}
 use Rattle.sheet.specs.CountSheet.{countSheet, refusalAt}
 use Rattle.sheet.specs.Rows.{rowAt, textOf}

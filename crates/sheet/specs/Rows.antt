@@ -6,7 +6,7 @@ use lib.IntN.{ℤ}
 use lib.Ieee.{Float, binary64, toBits}
 use Rattle.bet_sizing.specs.Counts.{concurrent}
 use Rattle.budget.specs.Budget.{budgetSize}
-use Rattle.sheet_forms.specs.Forms.{rowLine}
+use Rattle.sheet_rows.specs.Rows.{rowLine}
 
 -- the row at t
 unfoldable pub rowAt : List ℤ → List ℤ → List Float → ℤ → List ℕ

@@ -22,7 +22,7 @@ fn put_rows(
         let longs = number::as_usize(long[i]) as u64;
         let shorts = number::as_usize(short[i]) as u64;
         let bits = text_bits::bits_of(size[i]);
-        at = sheet_forms::put_row(out, at, starts[i], longs, shorts, bits);
+        at = sheet_rows::put_row(out, at, starts[i], longs, shorts, bits);
         i += 1;
     }
     at

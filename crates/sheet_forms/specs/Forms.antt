@@ -1,10 +1,9 @@
--- Document 01's span and row forms: what a span form decodes to, and how spans and rows are printed. Definitions only.
+-- Document 01's span form: what one decodes to, and how spans are printed. Definitions only.
 use Prim.Native.Nat.{ℕ}
 use mathlib.Core.List.{List, [], _∷_, _++_}
-use lib.IntN.{ℤ}
 use Rattle.text.specs.Bytes.{bytes}
 use Rattle.text.specs.Decode.{Got, got, _▷_, word, instant, hexes}
-use Rattle.text.specs.Print.{decimal, hex, shown}
+use Rattle.text.specs.Print.{hex, shown}
 use Rattle.sheet_forms.specs.declared.Span.{Span}
 
 -- a span form
@@ -32,8 +31,3 @@ spanText a =
 abbrev pub spanLines : List Span → List ℕ
 spanLines [] = []
 spanLines (a ∷ l) = spanText a ++ (bytes "\n" ++ spanLines l)
-
--- a row's line: an instant, the counts live then, and the bits of the size
-unfoldable pub rowLine : ℤ → ℕ → ℕ → ℕ → List ℕ
-rowLine t long short size =
-    bytes "(row (at " ++ (shown t ++ (bytes ") (long " ++ (decimal long ++ (bytes ") (short " ++ (decimal short ++ (bytes ") (size " ++ (hex size ++ bytes "))\n")))))))

@@ -1,41 +1,7 @@
 //! The port's functions for C (include/woddirme.h): a slice is a pointer and a length.
 
 use crate::ask::{Ask, Left};
-
-extern "C" {
-    fn woddirme_single_fit_loop(
-        moments: *const f64,
-        moments_len: usize,
-        variant: usize,
-        factor: f64,
-        max_iter: usize,
-        epsilon_override: *const f64,
-        epsilon_override_len: usize,
-        weights: *const f64,
-        weights_len: usize,
-        fit: *mut f64,
-        fit_len: usize,
-        row: *mut f64,
-        row_len: usize,
-        rows: *mut usize,
-    ) -> u64;
-
-    fn woddirme_mp_fit(
-        moments: *const f64,
-        moments_len: usize,
-        variant: usize,
-        factor: f64,
-        max_iter: usize,
-        n_runs: usize,
-        weights: *const f64,
-        weights_len: usize,
-        fit: *const f64,
-        fit_len: usize,
-        rows: *mut f64,
-        rows_len: usize,
-        count: *mut usize,
-    ) -> u64;
-}
+use woddirme::c::{woddirme_mp_fit, woddirme_single_fit_loop};
 
 pub fn answer(ask: &Ask) -> Left {
     let mut left = ask.unchanged(0);

@@ -1,13 +1,6 @@
 //! The port's count sheet for C (include/woddirme.h): a slice is a pointer and a length.
 
-extern "C" {
-    fn woddirme_count_sheet(
-        sheet: *const u8,
-        sheet_len: usize,
-        out: *mut u8,
-        out_len: usize,
-    ) -> usize;
-}
+use woddirme::c::woddirme_count_sheet;
 
 /// Enough for every answer.
 pub const ENOUGH: usize = 131_072;

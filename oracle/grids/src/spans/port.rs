@@ -1,32 +1,7 @@
 //! The port's counts and budget for C (include/woddirme.h): a slice is a pointer and a length.
 
 use super::{Ask, Left, Lent};
-
-extern "C" {
-    fn woddirme_get_concurrent_sides(
-        starts: *const i64,
-        starts_len: usize,
-        ends: *const i64,
-        ends_len: usize,
-        sides: *const f64,
-        sides_len: usize,
-        long: *mut f64,
-        long_len: usize,
-        short: *mut f64,
-        short_len: usize,
-    ) -> u64;
-
-    fn woddirme_bet_size_budget(
-        starts: *const i64,
-        starts_len: usize,
-        ends: *const i64,
-        ends_len: usize,
-        sides: *const f64,
-        sides_len: usize,
-        size: *mut f64,
-        size_len: usize,
-    ) -> u64;
-}
+use woddirme::c::{woddirme_bet_size_budget, woddirme_get_concurrent_sides};
 
 pub fn answer(ask: &Ask) -> Left {
     let mut left = ask.unchanged(0);

@@ -1,4 +1,4 @@
--- `protocol_lists::instants::read_next_instants` meets its contract: a turn reads and keeps one entry, and those that are left stand in what is left (`Reading.antt`). Assumes nothing.
+-- `protocol_instants::read_next_instants` meets its contract: a turn reads and keeps one entry, and those that are left stand in what is left (`Reading.antt` of protocol_lists). Assumes nothing.
 use Prim.Native.Nat.{_-_, _≤_}
 use mathlib.Core.Path.{_≡_, sym, _∙_}
 use native.Mathlib.Omega.{arith}
@@ -8,10 +8,10 @@ use mir.ValLaws.{toZ-ofZ}
 use lib.ListN.{length, drop}
 use lib.Seq.{sets}
 use Rattle.protocol.specs.Words.{nextInstant}
 use Rattle.protocol_lists.specs.Lists.{entriesOf, valuesOf}
 use Rattle.protocol_lists.proofs.Reading.{none-yet, one-more, not-one, no-more, none-stored, one-stored, not-stored, all-stored}
-use Rattle.protocol_lists.proofs.instants.read_next_instants.Statement.{statement}
-use Rattle.protocol_lists.proofs.instants.read_next_instants.Tie as tie
+use Rattle.protocol_instants.proofs.read_next_instants.Statement.{statement}
+use Rattle.protocol_instants.proofs.read_next_instants.Tie as tie
 
 abbrev Inv-loop : tie.InvT-loop
 Inv-loop s at ts₀ n a k₀ i₀ ts k i =

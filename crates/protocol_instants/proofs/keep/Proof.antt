@@ -1,10 +1,10 @@
--- `protocol_lists::instants::keep` meets its contract: past the end of a list a store changes nothing. Assumes nothing.
+-- `protocol_instants::keep` meets its contract: past the end of a list a store changes nothing. Assumes nothing.
 use mathlib.Core.Path.{sym}
 use native.Mathlib.Omega.{arith}
 use borrow.Author.Needs.{needs}
 use lib.Seq.{set-out}
-use Rattle.protocol_lists.proofs.instants.keep.Statement.{statement}
-use Rattle.protocol_lists.proofs.instants.keep.Tie as tie
+use Rattle.protocol_instants.proofs.keep.Statement.{statement}
+use Rattle.protocol_instants.proofs.keep.Tie as tie
 
 mul-t : tie.Need-mul-t
 mul-t c = search needs

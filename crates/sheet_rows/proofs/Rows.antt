@@ -9,7 +9,7 @@ use Rattle.text.specs.Bytes.{bytes}
 use Rattle.text.specs.Print.{Placed, decimal, hex, shown}
 use Rattle.text.proofs.Digits.{decimal-short, hex-length, shown-short}
 use Rattle.text.proofs.Placing.{Front, front-none, front-then}
-use Rattle.sheet_forms.specs.Forms.{rowLine}
+use Rattle.sheet_rows.specs.Rows.{rowLine}
 
 pub row-short : (t : ℤ) (long short size : ℕ) → length (rowLine t long short size) ≤ 128
 unfolding rowLine

@@ -5,10 +5,10 @@ use mir.Syntax.{w64}
 use mir.ValLaws.{toZ-ofZ}
 use lib.ListN.{length}
 use Rattle.text.proofs.Placing.{Front, front-is}
-use Rattle.sheet_forms.specs.Forms.{rowLine}
-use Rattle.sheet_forms.proofs.Rows.{row-made}
-use Rattle.sheet_forms.proofs.make_row.Statement.{statement}
-use Rattle.sheet_forms.proofs.make_row.Tie as tie
+use Rattle.sheet_rows.specs.Rows.{rowLine}
+use Rattle.sheet_rows.proofs.Rows.{row-made}
+use Rattle.sheet_rows.proofs.make_row.Statement.{statement}
+use Rattle.sheet_rows.proofs.make_row.Tie as tie
 
 made : (c : tie.After-put5) → Front (length (c .before .before .before .before .before .before .before .before .before .before .before .before .before .before .before .before .before .before .before .before .before .before .before .before .before .before .before .before .before .before .before .before .before .before .before .before .before .before .before .before .args .row .now)) (c .put5 .last .0) (c .put5 .result) (rowLine (c .before .before .before .before .before .before .before .before .before .before .before .before .before .before .before .before .before .before .before .before .before .before .before .before .before .before .before .before .before .before .before .before .before .before .before .before .before .before .before .before .args .start) (c .before .before .before .before .before .before .before .before .before .before .before .before .before .before .before .before .before .before .before .before .before .before .before .before .before .before .before .before .before .before .before .before .before .before .before .before .before .before .before .before .args .long) (c .before .before .before .before .before .before .before .before .before .before .before .before .before .before .before .before .before .before .before .before .before .before .before .before .before .before .before .before .before .before .before .before .before .before .before .before .before .before .before .before .args .short) (c .before .before .before .before .before .before .before .before .before .before .before .before .before .before .before .before .before .before .before .before .before .before .before .before .before .before .before .before .before .before .before .before .before .before .before .before .before .before .before .before .args .size)) 114
 made c =

@@ -4,8 +4,8 @@ use mathlib.Core.Path.{sym}
 use mir.Syntax.{w64}
 use mir.ValLaws.{toZ-ofZ}
 use lib.Seq.{length-take-le}
-use Rattle.sheet_forms.proofs.put_row.Statement.{statement}
-use Rattle.sheet_forms.proofs.put_row.Tie as tie
+use Rattle.sheet_rows.proofs.put_row.Statement.{statement}
+use Rattle.sheet_rows.proofs.put_row.Tie as tie
 
 slice-aggregate-make-row : tie.Need-slice-aggregate-make-row
 slice-aggregate-make-row c = search needs

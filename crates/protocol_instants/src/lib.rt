@@ -1,9 +1,9 @@
-// Lists of instants in a request.
+// Lists of instants in a request, read as `protocol_lists` reads those of fractions.
 ghost use mathlib.Core.Path.{_≡_};
 ghost use lib.ListN.{drop, set};
 ghost use Rattle.protocol.specs.Words.{nextInstant};
 ghost use Rattle.protocol_lists.specs.Lists.{listIn, listIs, nextInstants};
-use crate::List;
+use protocol_lists::List;
 use text::Instant;
 use text::Number;
 
