@@ -14,7 +14,8 @@ use Rattle.bet_sizing.specs.Refusals.{ConcurrentSides, countsRefusal, listAfter
 use Rattle.bet_sizing.specs.declared.Outcome.{Outcome}
 use Rattle.bet_sizing.specs.declared.Outcome.the-variants.{Unwritten, Written}
 use Rattle.bet_sizing.proofs.Refusing.{answered-none, answered-refusal, fitting, list-kept, list-written, no-room, not-refused}
-use Rattle.budget.specs.Budget.{BetSizeBudget, budgetRefusal, budgetSizes, largest, sizesOf}
+use Rattle.budget.specs.Budget.{BetSizeBudget, budgetSizes, largest}
+use Rattle.budget.specs.Sizes.{sizesOf}
 use Rattle.budget.proofs.Sizing.{sizes-map}
 
 -- ---- the numbers

@@ -1,6 +1,6 @@
 -- The largest count, a turn at a time; and the sizes, by their places and as a list. Assumes nothing.
 use Prim.Native.Nat.{ℕ, zero, suc, _+_, _≤_, _<_}
-use mathlib.Core.Path.{_≡_, refl, ap, _∙_}
+use mathlib.Core.Path.{_≡_, refl, ap}
 use mathlib.Core.List.{List, [], _∷_, _++_, map}
 use native.Mathlib.Numerals.{add-one}
 use native.Mathlib.Omega.{arith}
@@ -10,7 +10,8 @@ use lib.IntN.{ℤ}
 use lib.Ieee.{Float, nan, binary64, sub}
 use Rattle.float.specs.Leaves.{largerOf}
 use Rattle.bet_sizing.proofs.Filling.{Fill, fill-all}
-use Rattle.budget.specs.Budget.{largest, largestFrom, share, sizesBy, sizesOf}
+use Rattle.budget.specs.Budget.{largest, largestFrom, share}
+use Rattle.budget.specs.Sizes.{sizesBy, sizesOf}
 
 -- ---- the largest
 pub largest-more : (cs : List Float) (most all : Float) (i : ℕ) → i < length cs → largestFrom most (drop i cs) ≡ all → largestFrom (largerOf most (getD cs i nan)) (drop (i + 1) cs) ≡ all

@@ -44,13 +44,3 @@ budgetRefusal ss es ds size = spansRefusal (length ss) (length es) (length ds) (
 pub record BetSizeBudget (ss es : List ℤ) (ds size size' : List Float) (answer : Outcome) : Type 0 where
   pub answered : answer ≡ outcome (budgetRefusal ss es ds size) (length ss)
   pub sizes : size' ≡ listAfter (budgetRefusal ss es ds size) (length ss) (budgetSizes ss es ds) size
-
--- ---- between the parts of the code
--- the sizes, from the counts of both sides at each start and the largest of each side
-unfoldable pub sizesBy : Float → Float → List Float → List Float → List Float
-sizesBy a b [] ss = []
-sizesBy a b (l ∷ ls) [] = []
-sizesBy a b (l ∷ ls) (s ∷ ss) = sub binary64 (share l a) (share s b) ∷ sizesBy a b ls ss
-
-abbrev pub sizesOf : List Float → List Float → List Float
-sizesOf ls ss = sizesBy (largest ls) (largest ss) ls ss

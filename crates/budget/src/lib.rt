@@ -3,7 +3,8 @@ ghost use mathlib.Core.Path.{_≡_};
 ghost use mathlib.Core.List.{_++_};
 ghost use Prim.Native.Nat.{_≤_};
 ghost use lib.ListN.{length, drop};
-ghost use Rattle.budget.specs.Budget.{BetSizeBudget, largest, share, sizesOf};
+ghost use Rattle.budget.specs.Budget.{BetSizeBudget, largest, share};
+ghost use Rattle.budget.specs.Sizes.{sizesOf};
 use bet_sizing::Outcome;
 
 // The largest of the counts, 0 for none.

@@ -7,7 +7,7 @@ use native.Mathlib.Nat.{suc-ne-zero, suc-mul, mul-le-mul, mul-le-mul-right}
 use native.Mathlib.Omega.{arith}
 use native.Mathlib.Numerals.{add-one}
 use lib.Dec.{eqb, ltb}
-use lib.ListN.{length, take, drop, replicate, length-append, length-drop}
+use lib.ListN.{length, take, drop, replicate, length-append}
 use lib.Ieee.{Float}
 use borrow.Author.Tests.{eqb-true, ltb-false}
 use borrow.Rule.Slice.PartAt.{part-to-end}
@@ -16,7 +16,6 @@ use Rattle.walk.specs.declared.M2N.{M2N}
 use Rattle.fit_refusals.specs.Refusals.{rowsOf, gridRefusal, firstOf, runsRefusal}
 use Rattle.fit_runs.specs.Runs.{Runnable, rowsOut, rowsTo, unrefused, runRows, filledBy, mpFit, flatOf, flatIn64, rowsAt, putIn, allRuns, flatFit}
 use Rattle.grid.specs.Search.{singleFit}
-use Rattle.grid.specs.declared.Best.{Best}
 use Rattle.grid.specs.declared.Best.the-variants.{Row, Nothing}
 use Rattle.fit_runs.specs.declared.Filled.the-variants.{Unfilled}
 use Rattle.fit_runs.specs.declared.Flat.{Flat}

@@ -8,18 +8,7 @@ use lib.Ieee.{Float, binary64, ofBits, toBits, ofInt, toSigned, toUnsigned, lt, 
 use Rattle.float.specs.Leaves.{absOf, finite, largerOf}
 use Rattle.float.specs.Power.{powerOf, power}
 use Rattle.float.specs.Root.{root}
-
-infix 68 _⇒_
-data Row (A B : Type 0) : Type 0 where
-  _⇒_ : A → B → Row A B
-
-answers : {A B : Type 0} → (A → B) → List (Row A B) → List B
-answers f [] = []
-answers f ((a ⇒ b) ∷ t) = f a ∷ answers f t
-
-expected : {A B : Type 0} → List (Row A B) → List B
-expected [] = []
-expected ((a ⇒ b) ∷ t) = b ∷ expected t
+use Rattle.tables.specs.Tables.{Row, _⇒_, answers, expected}
 
 abbrev float : ℕ → Float
 float b = ofBits binary64 b

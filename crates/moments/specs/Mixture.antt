@@ -1,7 +1,7 @@
 -- The raw moments of a mixture, from López de Prado and Foreman (2014), in the Rust's order of operations (get_moments). Definitions only.
 use mathlib.Core.List.{List, [], _∷_}
 use lib.ListN.{getD}
-use lib.Ieee.{Float, nan}
+use lib.Ieee.{nan}
 use Rattle.float.specs.Constants as constants
 use Rattle.formula.specs.Formula.{Expr, given, var, const, _⊕_, _⊖_, _⊗_, _↑_, Stmt, _≔_, Outcome, admitted, inadmissible, run}
 use Rattle.moments.specs.Constants as numbers

@@ -10,7 +10,7 @@ use lib.Dec.{leb}
 use lib.ListN.{drop, length, length-append, length-drop, take, take-append-drop}
 use lib.Seq.{length-take-le}
 use Rattle.text.specs.Print.{Placed, placed, placeAfter}
-use Rattle.text.proofs.Placing.{placed-length, placed-next, placed-then}
+use Rattle.text.proofs.Placing.{placed-next, placed-then}
 use Rattle.printing_values.specs.Texts.{Puts, afterAll, allPlaced}
 
 -- ---- none, one, and some after others

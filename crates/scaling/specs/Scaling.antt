@@ -17,10 +17,9 @@ use Rattle.moments.specs.declared.Params.{Params}
 use Rattle.step.specs.Steps.{iter-4, iter-5, firstFour, firstFive}
 use Rattle.step.specs.declared.Step.{Step}
 use Rattle.step.specs.declared.Step.the-variants.{Admitted, Inadmissible}
-use Rattle.walk.specs.Trail.{settled, stepFor, trailFrom}
+use Rattle.walk.specs.Trail.{settled, stepFor}
 use Rattle.walk.specs.Walk.{trailOf, walkRefusal, walkOf}
 use Rattle.walk.specs.declared.M2N.{M2N}
-use Rattle.walk.specs.declared.Outcome.{Outcome}
 use Rattle.walk.specs.declared.Outcome.the-variants.{Ended}
 
 -- ---- the second walk

@@ -1,12 +1,10 @@
 -- The two steps of the fit, from López de Prado and Foreman (2014), as programs of formulas, each beside the Rust's iter_4 and iter_5, line by line. Definitions only.
 use mathlib.Core.List.{List, [], _∷_, _++_}
-use Prim.Native.Nat.{ℕ}
 use lib.ListN.{getD}
 use lib.Ieee.{Float, nan}
 use Rattle.float.specs.Constants as constants
-use Rattle.formula.specs.Formula.{Expr, given, var, const, _⊕_, _⊖_, _⊗_, _⊘_, _↑_, √_, Test, isZero, isNegative, notFinite, outsideUnit, isBelow, Stmt, _≔_, fail, Outcome, admitted, inadmissible, eval, run, untested}
+use Rattle.formula.specs.Formula.{Expr, given, var, const, _⊕_, _⊖_, _⊗_, _⊘_, _↑_, √_, isZero, isNegative, notFinite, outsideUnit, isBelow, Stmt, _≔_, fail, Outcome, admitted, inadmissible, eval, run, untested}
 use Rattle.moments.specs.Constants as numbers
-use Rattle.moments.specs.declared.Params.{Params}
 use Rattle.step.specs.Constants as steps
 use Rattle.step.specs.declared.Step.{Step}
 use Rattle.step.specs.declared.Step.the-variants.{Admitted, Inadmissible}

@@ -8,18 +8,7 @@ use lib.Ieee.{nan, binary64, toBits}
 use Rattle.text.specs.Bytes.{bytes}
 use Rattle.text.specs.Decode.{Got, got, bad, _▷_, word, nibble, numeral, natural, upTo, instant, hexes}
 use Rattle.text.specs.Print.{width, decimal, hex, shown, placed, placeAfter}
-
-infix 3 _⇒_
-data Row (A B : Type 0) : Type 0 where
-  _⇒_ : A → B → Row A B
-
-answers : {A B : Type 0} → (A → B) → List (Row A B) → List B
-answers f [] = []
-answers f ((a ⇒ b) ∷ t) = f a ∷ answers f t
-
-expected : {A B : Type 0} → List (Row A B) → List B
-expected [] = []
-expected ((a ⇒ b) ∷ t) = b ∷ expected t
+use Rattle.tables.specs.Tables.{Row, _⇒_, answers, expected}
 
 -- ---- instants, at the ends of i64 and past them
 abbrev instants : List (Row String (Got ℤ))

@@ -1,10 +1,10 @@
 -- `budget::sizes_of` meets its contract: after i turns the first i sizes are written (`Sizing.antt`, and bet_sizing's `Filling.antt`). Assumes nothing.
-use Prim.Native.Nat.{_-_, _≤_}
-use mathlib.Core.Path.{_≡_}
+use Prim.Native.Nat.{_-_}
 use native.Mathlib.Omega.{arith}
-use lib.ListN.{length, getD}
-use Rattle.bet_sizing.proofs.Filling.{Fill, fill-none, fill-more, fill-all}
-use Rattle.budget.specs.Budget.{largest, sizesOf}
+use lib.ListN.{length}
+use Rattle.bet_sizing.proofs.Filling.{Fill, fill-none, fill-more}
+use Rattle.budget.specs.Budget.{largest}
+use Rattle.budget.specs.Sizes.{sizesOf}
 use Rattle.budget.proofs.Sizing.{sizes-length, size-at, sizes-all}
 use Rattle.budget.proofs.sizes_of.Statement.{statement}
 use Rattle.budget.proofs.sizes_of.Tie as tie

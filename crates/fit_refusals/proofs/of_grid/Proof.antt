@@ -1,5 +1,4 @@
 -- `fit_refusals::of_grid` meets its contract: by what its call promises. Assumes nothing.
-use borrow.Author.Needs.{needs}
 use native.Mathlib.Omega.{arith}
 use Rattle.fit_refusals.proofs.of_grid.Statement.{statement}
 use Rattle.fit_refusals.proofs.of_grid.Tie as tie

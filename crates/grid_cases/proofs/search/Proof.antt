@@ -5,11 +5,6 @@ use native.Mathlib.Omega.{arith}
 use lib.Seq.{length-take-le}
 use Rattle.grid_cases.proofs.search.Statement.{statement}
 use Rattle.grid_cases.proofs.search.Tie as tie
-use Rattle.grid_cases.proofs.search.Reads as reads
-use Rattle.grid_cases.proofs.search.Lts as lts
-use Rattle.grid.proofs.single_fit_loop.Reads as single-fit-loop-reads
-use Rattle.grid_cases.proofs.on_m.Reads as on-m-reads
-use Rattle.grid_cases.proofs.tell.Reads as tell-reads
 
 returns : tie.Need-returns
 returns c = search needs

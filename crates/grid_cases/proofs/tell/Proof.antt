@@ -5,10 +5,6 @@ use native.Mathlib.Omega.{arith}
 use lib.Seq.{length-take-le}
 use Rattle.grid_cases.proofs.tell.Statement.{statement}
 use Rattle.grid_cases.proofs.tell.Tie as tie
-use Rattle.grid_cases.proofs.tell.Reads as reads
-use Rattle.grid_cases.proofs.tell.Lts as lts
-use Rattle.grid_cases.proofs.put_outcome.Reads as put-outcome-reads
-use Rattle.io.proofs.write_all.Reads as write-all-reads
 
 slice-aggregate-put-outcome : tie.Need-slice-aggregate-put-outcome
 slice-aggregate-put-outcome c = search needs

@@ -3,8 +3,6 @@ use native.Mathlib.Omega.{arith}
 use Rattle.root.proofs.LiftTurns.{Lifting, start, left, turn, done}
 use Rattle.root.proofs.lifted.Statement.{statement}
 use Rattle.root.proofs.lifted.Tie as tie
-use Rattle.root.proofs.lifted.Reads as reads
-use Rattle.root.proofs.lifted.Lts as lts
 
 abbrev Inv-loop : tie.InvT-loop
 Inv-loop digits m₀ g₀ m g = Lifting digits m g

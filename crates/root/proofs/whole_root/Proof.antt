@@ -3,8 +3,6 @@ use native.Mathlib.Omega.{arith}
 use Rattle.root.proofs.DigitTurns.{State, start, turn-up, turn-down, done}
 use Rattle.root.proofs.whole_root.Statement.{statement}
 use Rattle.root.proofs.whole_root.Tie as tie
-use Rattle.root.proofs.whole_root.Reads as reads
-use Rattle.root.proofs.whole_root.Lts as lts
 
 abbrev Inv-loop : tie.InvT-loop
 Inv-loop n q₀ y₀ b₀ q y b = State n q y b

@@ -10,11 +10,23 @@ use Rattle.sheet_rows.proofs.Rows.{row-made}
 use Rattle.sheet_rows.proofs.make_row.Statement.{statement}
 use Rattle.sheet_rows.proofs.make_row.Tie as tie
 
-made : (c : tie.After-put5) → Front (length (c .before .before .before .before .before .before .before .before .before .before .before .before .before .before .before .before .before .before .before .before .before .before .before .before .before .before .before .before .before .before .before .before .before .before .before .before .before .before .before .before .args .row .now)) (c .put5 .last .0) (c .put5 .result) (rowLine (c .before .before .before .before .before .before .before .before .before .before .before .before .before .before .before .before .before .before .before .before .before .before .before .before .before .before .before .before .before .before .before .before .before .before .before .before .before .before .before .before .args .start) (c .before .before .before .before .before .before .before .before .before .before .before .before .before .before .before .before .before .before .before .before .before .before .before .before .before .before .before .before .before .before .before .before .before .before .before .before .before .before .before .before .args .long) (c .before .before .before .before .before .before .before .before .before .before .before .before .before .before .before .before .before .before .before .before .before .before .before .before .before .before .before .before .before .before .before .before .before .before .before .before .before .before .before .before .args .short) (c .before .before .before .before .before .before .before .before .before .before .before .before .before .before .before .before .before .before .before .before .before .before .before .before .before .before .before .before .before .before .before .before .before .before .before .before .before .before .before .before .args .size)) 114
-made c =
-    let s = c .before .before .before .before .before .before .before .before .before .before .before .before .before .before .before .before .before .before .before .before .before .before .before .before .before .before .before .before .before .before .before .before .before .before .before .before .before .before .before .before in
-    let p₂ = rw (toZ-ofZ w64 (s .args .start) (s .fits .start)) at (c .before .before .before .before .before .before .before .before .before .before .before .before .before .before .before .before .before .before .before .before .before .before .before .before .before .before .before .before .before .before .before .before .put-instant .ensures) in
-    row-made (s .args .start) (s .args .long) (s .args .short) (s .args .size) (s .pre) (c .before .before .before .before .before .before .before .before .before .before .before .before .before .before .before .before .before .before .before .before .before .before .before .before .before .before .before .before .before .before .before .before .before .before .before .before .put .ensures) p₂ (c .before .before .before .before .before .before .before .before .before .before .before .before .before .before .before .before .before .before .before .before .before .before .before .before .before .before .before .put2 .ensures) (c .before .before .before .before .before .before .before .before .before .before .before .before .before .before .before .before .before .before .before .before .before .before .before .put-decimal .ensures) (c .before .before .before .before .before .before .before .before .before .before .before .before .before .before .before .before .before .before .put3 .ensures) (c .before .before .before .before .before .before .before .before .before .before .before .before .before .before .put-decimal2 .ensures) (c .before .before .before .before .before .before .before .before .before .put4 .ensures) (c .before .before .before .before .before .put-hex .ensures) (c .put5 .ensures)
+-- the texts put, each behind the one before it
+module _ (c : tie.After-put5) where
+  abbrev start : tie.Start
+  start = c .before .before .before .before .before .before .before .before .before .before .before .before .before .before .before .before .before .before .before .before .before .before .before .before .before .before .before .before .before .before .before .before .before .before .before .before .before .before .before .before
+
+  made : Front (length (start .args .row .now)) (c .put5 .last .0) (c .put5 .result) (rowLine (start .args .start) (start .args .long) (start .args .short) (start .args .size)) 114
+  made =
+      let h = c .before .before .before .before .before in
+      let g = h .before .before .before .before in
+      let f = g .before .before .before .before .before in
+      let e = f .before .before .before .before in
+      let d = e .before .before .before .before .before in
+      let b = d .before .before .before .before in
+      let i = b .before .before .before .before .before in
+      let w = i .before .before .before .before in
+      let at = rw (toZ-ofZ w64 (start .args .start) (start .fits .start)) at (i .put-instant .ensures) in
+      row-made (start .args .start) (start .args .long) (start .args .short) (start .args .size) (start .pre) (w .put .ensures) at (b .put2 .ensures) (d .put-decimal .ensures) (e .put3 .ensures) (f .put-decimal2 .ensures) (g .put4 .ensures) (h .put-hex .ensures) (c .put5 .ensures)
 
 slice-aggregate-put : tie.Need-slice-aggregate-put
 slice-aggregate-put c = search needs
@@ -62,7 +74,7 @@ same-length : tie.Need-same-length
 same-length c = made (c .before .before) .size
 
 returns : tie.Need-returns
-returns c = front-is (omega (arith, c .before .before .before .before .before .before .before .before .before .before .before .before .before .before .before .before .before .before .before .before .before .before .before .before .before .before .before .before .before .before .before .before .before .before .before .before .before .before .before .before .before .before .pre)) (made (c .before .before))
+returns c = let l = c .before .before in front-is (omega (arith, start l .pre)) (made l)
 
 pub make-row-spec : {M : Type 1} → statement M
 make-row-spec =

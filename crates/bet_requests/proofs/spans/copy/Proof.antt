@@ -1,11 +1,11 @@
 -- `bet_requests::spans::copy` meets its contract: a turn copies one number. Assumes nothing.
 use Prim.Native.Nat.{ℕ, _+_, _-_, _≤_}
 use mathlib.Core.Path.{_≡_, refl, sym, _∙_, ap}
-use mathlib.Core.List.{List, _++_}
+use mathlib.Core.List.{List}
 use native.Mathlib.Omega.{arith}
 use native.Mathlib.Numerals.{add-one}
 use lib.Ieee.{Float, nan}
-use lib.ListN.{drop, getD, length, set}
+use lib.ListN.{getD, length, set}
 use lib.Seq.{length-paste, paste, paste-suc, take-length}
 use Rattle.bet_requests.proofs.spans.copy.Statement.{statement}
 use Rattle.bet_requests.proofs.spans.copy.Tie as tie

@@ -1,5 +1,5 @@
 -- `bet_sizing::counts::net_counts` meets its contract: after i turns the first i net counts are written (`Filling.antt`). Assumes nothing.
-use Prim.Native.Nat.{ℕ, _-_, _≤_}
+use Prim.Native.Nat.{ℕ, _-_}
 use mathlib.Core.Path.{_≡_, ap, _∙_}
 use mathlib.Core.List.{List, map}
 use native.Mathlib.Omega.{arith}

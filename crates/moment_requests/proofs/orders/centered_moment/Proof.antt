@@ -1,7 +1,7 @@
 -- `moment_requests::orders::centered_moment` meets its contract, by whether each word is there, and nothing after them; what has no place is refused alike (`Cut.antt`). Assumes nothing.
 use borrow.Author.Needs.{needs}
 use Rattle.protocol.specs.Words.{nextFraction}
-use Rattle.protocol_lists.proofs.Listing.{list-front, list-got, list-long, no-list}
+use Rattle.protocol_lists.proofs.Listing.{list-front, list-got, no-list}
 use Rattle.replies.proofs.Asking.{ended, not-ended}
 use Rattle.moment_requests.proofs.Cut.{centred-cut}
 use Rattle.moment_requests.proofs.orders.centered_moment.Statement.{statement}

@@ -3,7 +3,7 @@ use mathlib.Core.Path.{refl}
 use lib.Ieee.{ofBits}
 use borrow.Author.Needs.{needs}
 use Rattle.float.specs.Power.{powerOf}
-use Rattle.formula.specs.Formula.{eval, stops, admitted, inadmissible}
+use Rattle.formula.specs.Formula.{eval, stops, admitted}
 use Rattle.formula.proofs.Runs.{done, then, stop, pass}
 use Rattle.step.specs.Parts.{varianceAt}
 use Rattle.step.proofs.FirstHalf.{deviations, zero, below, on}
