@@ -1,0 +1,3 @@
+-- Laws of the module `runs`.
+pub mod Room
+pub mod Rows

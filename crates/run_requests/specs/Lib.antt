@@ -1,0 +1,2 @@
+-- The requests and their replies.
+pub mod Runs
