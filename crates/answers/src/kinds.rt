@@ -1,12 +1,12 @@
 // Which kind of request a line is. A kind to which the line does not belong replies `Bad`, and the
-// next is asked. Weights are read into xs, and answers that are lists left there.
+// next is asked. Answers that are lists are left in xs.
 use bet_requests::spans;
-use fit_requests::runs;
-use fit_requests::searches;
 use moment_requests::orders;
 use number_requests::leaves;
 use price_requests::curves;
 use replies::Reply;
+use run_requests::runs;
+use search_requests::searches;
 use step_requests::steps;
 use walk_requests::walks;
 
@@ -27,7 +27,7 @@ pub(crate) fn answer(s: &[u8], xs: &mut [f64]) -> Reply {
     if !replies::is_bad(r) {
         return r;
     }
-    let r = searches::answer(s, xs);
+    let r = searches::answer(s);
     if !replies::is_bad(r) {
         return r;
     }

@@ -1,5 +1,4 @@
--- Which reply says that a line is no request, and how many fractions a reply may have in the list beside it. Definitions only.
-use Prim.Native.Nat.{ℕ, _*_, _≤_}
+-- Which reply says that a line is no request. Definitions only.
 use mathlib.Core.Bool.{Bool, true, false}
 use Rattle.replies.specs.declared.forms.Reply as reply
 
@@ -17,22 +16,3 @@ isBad (reply.the-variants.Walked v) = false
 isBad (reply.the-variants.Searched v) = false
 isBad (reply.the-variants.Listed count k) = false
 isBad (reply.the-variants.Spanned v) = false
-
--- a reply that is a list has at most n fractions in all
-abbrev pub ListedIn : ℕ → reply.Reply → Type 0
-ListedIn n reply.the-variants.Bad = Unit {0}
-ListedIn n (reply.the-variants.Refused v) = Unit {0}
-ListedIn n (reply.the-variants.Fraction v) = Unit {0}
-ListedIn n (reply.the-variants.Natural v) = Unit {0}
-ListedIn n (reply.the-variants.Instant v) = Unit {0}
-ListedIn n (reply.the-variants.Moments v) = Unit {0}
-ListedIn n (reply.the-variants.Parameters v) = Unit {0}
-ListedIn n reply.the-variants.Inadmissible = Unit {0}
-ListedIn n (reply.the-variants.Walked v) = Unit {0}
-ListedIn n (reply.the-variants.Searched v) = Unit {0}
-ListedIn n (reply.the-variants.Listed count k) = k ≤ n
-ListedIn n (reply.the-variants.Spanned v) = v .columns * v .count ≤ n
-
--- a reply that has nothing in the list beside it
-abbrev pub Unlisted : reply.Reply → Type 0
-Unlisted r = (n : ℕ) → ListedIn n r
