@@ -21,7 +21,8 @@ use Rattle.walk.specs.declared.M2N.{M2N}
 use Rattle.fit_refusals.specs.Refusals.{rowsOf, gridRefusal}
 use Rattle.grid.specs.Rows.{begun, centredState, movedError, sumOfSquares}
 use Rattle.fit_runs.specs.Runs.{rowsIn, flatOf}
-use Rattle.grid.specs.Search.{deviationOf, meanOf, fitOf}
+use Rattle.grid.specs.Search.{deviationOf, fitOf}
+use Rattle.grid_rows.specs.Rows.{meanOf}
 
 -- M = (1, 4.5, 16, 81.5, 416), factor 1
 abbrev on-M : ℕ → Float → M2N

@@ -4,11 +4,10 @@ use mathlib.Core.List.{List}
 use mathlib.Core.Bool.{false}
 use Prim.Native.Nat.{ℕ, zero, suc, _≤_}
 use native.Mathlib.Omega.{arith}
-use lib.Dec.{T, ltb}
-use lib.IntN.{pos}
+use lib.Dec.{ltb}
 use lib.ListN.{length}
-use lib.Ieee.{Float, binary64, inFloat}
-use borrow.Author.Tests.{le-ltb, le-leb}
+use lib.Ieee.{Float}
+use borrow.Author.Tests.{le-ltb}
 use Rattle.fit_refusals.proofs.Known.{grid-known}
 use Rattle.fit_refusals.specs.Refusals.{gridRefusal}
 use Rattle.moments.specs.Orders.{centredSum}
@@ -17,10 +16,6 @@ use Rattle.moments.specs.declared.Centred.{Centred}
 use Rattle.moments.specs.declared.Centred.the-variants.{Refused, Value}
 use Rattle.walk.specs.declared.M2N.{M2N}
 use Rattle.grid.specs.Search.{Served}
-
-pub small : (x : ℕ) → x ≤ 131072 → T (inFloat binary64 (pos x))
-unfolding inFloat
-small x h = rw (le-leb x 9007199254740992 (omega (arith, h))) tt
 
 -- ---- centred moments of an array of 16
 one-of : (n : ℕ) → n ≤ 16 → ltb 16 (atLeastOne n) ≡ false

@@ -1,4 +1,3 @@
-pub mod Blocks
 pub mod Known
 pub mod Searching
 pub mod Sums

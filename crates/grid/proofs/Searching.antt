@@ -1,36 +1,29 @@
 -- One search, part by part: each part's answer put into the definition's place. Assumes nothing.
-use mathlib.Core.Path.{_≡_, refl, sym, ap, _∙_}
+use mathlib.Core.Path.{_≡_, refl, ap, _∙_}
 use mathlib.Core.List.{List}
-use Prim.Native.Nat.{ℕ, zero, suc, _+_, _≤_}
-use native.Mathlib.Numerals.{add-one}
+use Prim.Native.Nat.{ℕ, zero, suc, _≤_, min}
 use native.Mathlib.Omega.{arith}
-use lib.ListN.{getD}
-use lib.Ieee.{Float, nan}
-use Rattle.walk.specs.Walk.{walkOf}
+use lib.ListN.{length, take}
+use lib.Ieee.{Float}
 use Rattle.walk.specs.declared.M2N.{M2N}
 use Rattle.fit_refusals.specs.Refusals.{rowsOf, gridRefusal}
+use Rattle.grid_rows.proofs.First.{first-enough}
+use Rattle.grid_rows.specs.Rows.{searchTo}
+use Rattle.grid_rows.specs.declared.Search.{Search}
 use Rattle.grid.specs.Rows.{begun, centredState, movedState, movedBest}
-use Rattle.grid.specs.Search.{inForce, deviationOf, meanOf, looked, searchTo, foundBy, plainFit, centredFit, fitOf, answered, singleFit}
+use Rattle.grid.specs.Search.{inForce, deviationOf, bestOf, foundBy, plainFit, centredFit, fitOf, answered, singleFit, Served}
 use Rattle.grid.specs.declared.Best.{Best}
 use Rattle.grid.specs.declared.Epsilon.{Epsilon}
-use Rattle.grid.specs.declared.search.Search.{Search}
 use Rattle.grid.specs.declared.search.Searched.{Searched}
 use Rattle.grid.specs.declared.Outcome.the-variants.{Refused, Ended}
 
--- one row more
-pub row-more : (m : M2N) (deviation : Float) (weights : List Float) (i : ℕ) (s s′ : Search) (μ : Float) → s ≡ searchTo m deviation weights i → μ ≡ meanOf m deviation (i + 1) → s′ ≡ looked s (walkOf (s .state) μ (getD weights i nan) .state) → s′ ≡ searchTo m deviation weights (i + 1)
-unfolding searchTo
-row-more m deviation weights i s s′ μ hs hμ h =
-    h
-    ∙ ap (λ x. looked s (walkOf (s .state) x (getD weights i nan) .state)) (hμ ∙ ap (meanOf m deviation) (add-one i))
-    ∙ ap (λ x. looked x (walkOf (x .state) (meanOf m deviation (suc i)) (getD weights i nan) .state)) hs
-    ∙ ap (searchTo m deviation weights) (sym (add-one i))
-
--- the whole
-pub plain-is : (m : M2N) (epsilon : Float) (weights : List Float) (b : M2N) (d : Float) (n : ℕ) (s : Search) → b ≡ begun m epsilon → d ≡ deviationOf m → n ≡ rowsOf epsilon → s ≡ searchTo b d weights n → foundBy s ≡ plainFit m epsilon weights
+-- walked from the first weights alone
+pub plain-is : (m : M2N) (epsilon : Float) (weights : List Float) (b : M2N) (d : Float) (n : ℕ) (s : Search) (best : Best) → Served m epsilon weights → b ≡ begun m epsilon → d ≡ deviationOf m → n ≡ rowsOf epsilon → s ≡ searchTo b d (take n weights) (min (length (take n weights)) 131072) → best ≡ bestOf (s .best) → record { state = s .state; best = best } ≡ plainFit m epsilon weights
 unfolding plainFit
-plain-is m epsilon weights b d n s hb hd hn hs =
-    ap foundBy (hs ∙ ap (λ x. searchTo x d weights n) hb ∙ ap (λ x. searchTo (begun m epsilon) x weights n) hd ∙ ap (searchTo (begun m epsilon) (deviationOf m) weights) hn)
+plain-is m epsilon weights b d n s best h hb hd hn hs hk =
+    let first = first-enough b d weights n (omega arith) (omega arith) in
+    ap (λ x. record { state = s .state; best = x }) hk
+    ∙ ap foundBy (hs ∙ first ∙ ap (λ x. searchTo x d weights n) hb ∙ ap (λ x. searchTo (begun m epsilon) x weights n) hd ∙ ap (searchTo (begun m epsilon) (deviationOf m) weights) hn)
 
 pub centred-is : (m : M2N) (epsilon : Float) (weights : List Float) (c : M2N) (s : Searched) (state : M2N) (best : Best) → c ≡ centredState m → s ≡ plainFit c epsilon weights → state ≡ movedState m epsilon (s .state .parameters) → best ≡ movedBest m (s .best) → record { state = state; best = best } ≡ centredFit m epsilon weights
 unfolding centredFit

@@ -1,24 +1,24 @@
 -- One search over the grid (the Rust's single_fit_loop and centred_fit_loop). Definitions only.
 use mathlib.Core.List.{List}
 use mathlib.Core.Bool.{Bool, _&&_, not, cond}
-use mathlib.Core.Path.{_≡_}
-use Prim.Native.Nat.{ℕ, zero, suc, _+_, _≤_, _<_}
+use Prim.Native.Nat.{ℕ, zero, suc, _≤_}
 use lib.Dec.{eqb}
-use lib.IntN.{pos}
 use lib.ListN.{length, getD}
-use lib.Ieee.{Float, nan, binary64, add, mul, ofInt, lt, eq}
+use lib.Ieee.{Float, nan, binary64, eq}
 use Rattle.float.specs.Constants.{nought}
 use Rattle.float.specs.Root.{root}
 use Rattle.moments.specs.Orders.{centredSum}
-use Rattle.step.specs.Steps.{sigma2Squared}
-use Rattle.walk.specs.Walk.{walkOf}
 use Rattle.walk.specs.declared.M2N.{M2N}
 use Rattle.fit_refusals.specs.Refusals.{rowsOf, gridRefusal}
+use Rattle.grid_rows.specs.Rows.{searchTo}
+use Rattle.grid_rows.specs.declared.Kept.{Kept}
+use Rattle.grid_rows.specs.declared.Kept.the-variants as kept
+use Rattle.grid_rows.specs.declared.Search.{Search}
 use Rattle.grid.specs.Rows.{rowOf, begun, centredState, movedState, movedBest}
+use Rattle.grid.specs.declared.Best.{Best}
 use Rattle.grid.specs.declared.Best.the-variants.{Row, Nothing}
 use Rattle.grid.specs.declared.Epsilon.{Epsilon}
 use Rattle.grid.specs.declared.Epsilon.the-variants.{Override, Own}
-use Rattle.grid.specs.declared.search.Search.{Search}
 use Rattle.grid.specs.declared.search.Searched.{Searched}
 use Rattle.grid.specs.declared.Outcome.the-variants.{Refused, Ended}
 use Rattle.grid.specs.declared.Fitted.{Fitted}
@@ -33,23 +33,13 @@ unfoldable pub deviationOf : M2N → Float
 unfolding centredSum root
 deviationOf m = root binary64 (centredSum (m .moments) 2)
 
--- the starting mean of row i: ((i * epsilon) * factor) * deviation + m_1
-unfoldable pub meanOf : M2N → Float → ℕ → Float
-meanOf m deviation i = add binary64 (mul binary64 (mul binary64 (mul binary64 (ofInt binary64 (pos i)) (m .epsilon)) (m .factor)) deviation) (getD (m .moments) 0 nan)
-
--- the state after a row's walk: a strictly smaller error than any row's before it makes the row
-abbrev pub looked : Search → M2N → Search
-looked s m = cond (lt (m .error) (s .«err_min»)) (record { state = m; «err_min» = m .error; best = Row (rowOf (m .parameters) (m .error)) }) (record { state = m; «err_min» = s .«err_min»; best = s .best })
-
--- the search after the first n rows; the error carries over from row to row
-unfoldable pub searchTo : M2N → Float → List Float → ℕ → Search
-unfolding meanOf walkOf
-searchTo m deviation weights zero = record { state = m; «err_min» = m .error; best = Nothing }
-searchTo m deviation weights (suc i) =
-    let s = searchTo m deviation weights i in looked s (walkOf (s .state) (meanOf m deviation (suc i)) (getD weights i nan) .state)
+-- the row that the walks kept
+abbrev pub bestOf : Kept → Best
+bestOf kept.Nothing = Nothing
+bestOf (kept.Row p error) = Row (rowOf p error)
 
 abbrev pub foundBy : Search → Searched
-foundBy s = record { state = s .state; best = s .best }
+foundBy s = record { state = s .state; best = bestOf (s .best) }
 
 -- on the moments as given
 unfoldable pub plainFit : M2N → Float → List Float → Searched
@@ -78,15 +68,6 @@ answered (suc n) m s = record { state = m; outcome = Refused (suc n) }
 unfoldable pub singleFit : M2N → Epsilon → List Float → Fitted
 unfolding gridRefusal fitOf
 singleFit m e weights = answered (gridRefusal m (inForce m e) 1 weights) m (fitOf m (inForce m e) weights)
-
--- ---- what the parts promise each other
--- the starting means of the k rows after the first `from`
-abbrev pub Means : M2N → Float → ℕ → ℕ → List Float → Type 0
-Means m deviation from k u = (j : ℕ) → j < k → getD u j nan ≡ meanOf m deviation (suc (from + j))
-
--- σ₂² of the first step from each of the first k means, with the weights after the first `from`
-abbrev pub Variances : List Float → List Float → List Float → ℕ → ℕ → List Float → Type 0
-Variances ms u weights from k v = (j : ℕ) → j < k → getD v j nan ≡ sigma2Squared ms (getD u j nan) (getD weights (from + j) nan)
 
 -- what a search that is not refused rests on
 abbrev pub Served : M2N → Float → List Float → Type 0

@@ -1,4 +1,4 @@
--- `grid::search::variances` meets its contract: after j turns, the first j are in place, the others as they were. Assumes nothing.
+-- `grid_rows::variances` meets its contract: after j turns, the first j are in place, the others as they were. Assumes nothing.
 use mathlib.Core.Path.{_≡_, refl, ap, _∙_}
 use Prim.Native.Nat.{ℕ, _+_, _-_, _≤_}
 use native.Mathlib.Omega.{arith}
@@ -7,10 +7,10 @@ use lib.Ieee.{nan}
 use lib.ListN.{getD, length, length-set}
 use Rattle.moments.specs.Figures.{listed}
 use Rattle.step.specs.Steps.{sigma2Squared}
-use Rattle.grid.specs.Search.{Variances}
-use Rattle.grid.proofs.Blocks.{put-more, put-later}
-use Rattle.grid.proofs.search.variances.Statement.{statement}
-use Rattle.grid.proofs.search.variances.Tie as tie
+use Rattle.grid_rows.specs.Rows.{Variances}
+use Rattle.grid_rows.proofs.Blocks.{put-more, put-later}
+use Rattle.grid_rows.proofs.variances.Statement.{statement}
+use Rattle.grid_rows.proofs.variances.Tie as tie
 
 abbrev Inv-loop : tie.InvT-loop
 Inv-loop a weights from k v₀ j₀ v j = (j ≤ k) × (length v ≡ 256) × Variances (listed a) v₀ weights from j v × ((i : ℕ) → j ≤ i → getD v i nan ≡ getD v₀ i nan)

@@ -1,14 +1,13 @@
--- `grid::search::walk_block` meets its contract: after j turns, the search after j rows more, passed over or walked. Assumes nothing.
+-- `grid_rows::walk_block` meets its contract: after j turns, the search after j rows more, passed over or walked. Assumes nothing.
 use mathlib.Core.Path.{_≡_, ap, _∙_}
 use Prim.Native.Nat.{_+_, _-_, _≤_, _<_}
 use native.Mathlib.Omega.{arith}
 use lib.Ieee.{ofBits}
 use borrow.Author.Needs.{needs}
-use Rattle.grid.specs.Search.{searchTo}
-use Rattle.grid.proofs.Blocks.{plus-none, plus-one, row-passed}
-use Rattle.grid.proofs.Searching.{row-more}
-use Rattle.grid.proofs.search.walk_block.Statement.{statement}
-use Rattle.grid.proofs.search.walk_block.Tie as tie
+use Rattle.grid_rows.specs.Rows.{searchTo}
+use Rattle.grid_rows.proofs.Blocks.{plus-none, plus-one, row-passed, row-more}
+use Rattle.grid_rows.proofs.walk_block.Statement.{statement}
+use Rattle.grid_rows.proofs.walk_block.Tie as tie
 
 abbrev Inv-loop : tie.InvT-loop
 Inv-loop m deviation weights from k v t₀ j₀ t j = (j ≤ k) × (t ≡ searchTo m deviation weights (from + j))

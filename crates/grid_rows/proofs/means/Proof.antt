@@ -1,13 +1,13 @@
--- `grid::search::means` meets its contract: after j turns, the first j are in place. Assumes nothing.
+-- `grid_rows::means` meets its contract: after j turns, the first j are in place. Assumes nothing.
 use mathlib.Core.Path.{_≡_, refl, _∙_}
 use Prim.Native.Nat.{suc, _+_, _-_, _≤_}
 use native.Mathlib.Omega.{arith}
 use borrow.Author.Needs.{needs}
 use lib.ListN.{length, length-set}
-use Rattle.grid.specs.Search.{Means, meanOf}
-use Rattle.grid.proofs.Blocks.{mean-is, put-more}
-use Rattle.grid.proofs.search.means.Statement.{statement}
-use Rattle.grid.proofs.search.means.Tie as tie
+use Rattle.grid_rows.specs.Rows.{Means, meanOf}
+use Rattle.grid_rows.proofs.Blocks.{mean-is, put-more}
+use Rattle.grid_rows.proofs.means.Statement.{statement}
+use Rattle.grid_rows.proofs.means.Tie as tie
 
 abbrev Inv-loop : tie.InvT-loop
 Inv-loop m deviation from k u₀ j₀ u j = (j ≤ k) × (length u ≡ 256) × Means m deviation from j u

@@ -1,9 +1,9 @@
--- `grid::search::walk_row` meets its contract: by what its calls promise. Assumes nothing.
+-- `grid_rows::walk_row` meets its contract: by what its calls promise. Assumes nothing.
 use mathlib.Core.Path.{ap, _∙_}
 use borrow.Author.Needs.{needs}
-use Rattle.grid.specs.Search.{looked}
-use Rattle.grid.proofs.search.walk_row.Statement.{statement}
-use Rattle.grid.proofs.search.walk_row.Tie as tie
+use Rattle.grid_rows.specs.Rows.{looked}
+use Rattle.grid_rows.proofs.walk_row.Statement.{statement}
+use Rattle.grid_rows.proofs.walk_row.Tie as tie
 
 iterate-from-requires : tie.Need-iterate-from-requires
 iterate-from-requires c κs = search needs

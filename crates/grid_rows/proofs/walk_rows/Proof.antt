@@ -1,11 +1,11 @@
--- `grid::search::walk_rows` meets its contract: after each block, the search after the first i rows. Assumes nothing.
+-- `grid_rows::walk_rows` meets its contract: after each block, the search after the first i rows. Assumes nothing.
 use mathlib.Core.Path.{_≡_, refl, ap, _∙_}
 use Prim.Native.Nat.{_-_, _≤_}
 use native.Mathlib.Omega.{arith}
 use borrow.Author.Needs.{needs}
-use Rattle.grid.specs.Search.{searchTo}
-use Rattle.grid.proofs.search.walk_rows.Statement.{statement}
-use Rattle.grid.proofs.search.walk_rows.Tie as tie
+use Rattle.grid_rows.specs.Rows.{searchTo}
+use Rattle.grid_rows.proofs.walk_rows.Statement.{statement}
+use Rattle.grid_rows.proofs.walk_rows.Tie as tie
 
 abbrev Inv-loop : tie.InvT-loop
 Inv-loop m deviation weights n s₀ i₀ s i = (i ≤ n) × (s ≡ searchTo m deviation weights i)
@@ -13,15 +13,18 @@ Inv-loop m deviation weights n s₀ i₀ s i = (i ≤ n) × (s ≡ searchTo m de
 abbrev μ-loop : tie.MeasureT-loop
 μ-loop m deviation weights n s₀ i₀ s i = n - i
 
+least-requires : tie.Need-least-requires Inv-loop μ-loop
+least-requires c κs = search needs
+
 loop-holds : tie.Need-loop-holds Inv-loop μ-loop
 unfolding searchTo
 loop-holds c = (omega arith, refl)
 
-sub-block-of : tie.Need-sub-block-of Inv-loop μ-loop
-sub-block-of c = omega arith
+sub-least : tie.Need-sub-least Inv-loop μ-loop
+sub-least c = omega arith
 
-block-of-requires : tie.Need-block-of-requires Inv-loop μ-loop
-block-of-requires c κs = search needs
+least-requires-2 : tie.Need-least-requires-2 Inv-loop μ-loop
+least-requires-2 c κs = search needs
 
 walk-block-requires : tie.Need-walk-block-requires Inv-loop μ-loop
 walk-block-requires c κs = (c .before .before .loop .inv .1, omega arith, omega arith, omega arith)
@@ -37,8 +40,8 @@ loop-again c = (omega arith, c .walk-block .ensures)
 
 returns : tie.Need-returns Inv-loop μ-loop
 returns c =
-    let e : c .before .loop .i ≡ c .before .before .before .args .n = omega arith in
-    c .before .loop .inv .1 ∙ ap (searchTo _ _ _) e
+    let e : c .before .loop .i ≡ c .before .before .least .result = omega arith in
+    c .before .loop .inv .1 ∙ ap (searchTo _ _ _) (e ∙ c .before .before .least .ensures)
 
 pub walk-rows-spec : {M : Type 1} → statement M
 walk-rows-spec =
@@ -46,9 +49,10 @@ walk-rows-spec =
     (tie.spec
     Inv-loop
     μ-loop
+    least-requires
     loop-holds
-    sub-block-of
-    block-of-requires
+    sub-least
+    least-requires-2
     walk-block-requires
     add-i
     loop-less

@@ -18,14 +18,13 @@ use Rattle.walk.proofs.Stays.{same-moments, stays}
 use Rattle.walk.proofs.Trails.{five-enough}
 use Rattle.walk.specs.Walk.{fiveOf, walkOf}
 use Rattle.walk.specs.declared.M2N.{M2N}
-use Rattle.grid.specs.Rows.{rowOf}
-use Rattle.grid.specs.Search.{meanOf, looked, searchTo}
-use Rattle.grid.specs.declared.Best.the-variants.{Row}
-use Rattle.grid.specs.declared.search.Search.{Search}
+use Rattle.grid_rows.specs.Rows.{meanOf, looked, searchTo}
+use Rattle.grid_rows.specs.declared.Kept.the-variants.{Row}
+use Rattle.grid_rows.specs.declared.Search.{Search}
 
 -- what `looked` chooses by its test
 abbrev seen : Bool → Search → M2N → Search
-seen b s x = cond b (record { state = x; «err_min» = x .error; best = Row (rowOf (x .parameters) (x .error)) }) (record { state = x; «err_min» = s .«err_min»; best = s .best })
+seen b s x = cond b (record { state = x; «err_min» = x .error; best = Row (x .parameters) (x .error) }) (record { state = x; «err_min» = s .«err_min»; best = s .best })
 
 seen-state : (b : Bool) (s : Search) (x : M2N) → seen b s x .state ≡ x
 seen-state true s x = refl
@@ -89,3 +88,11 @@ module _ (m : M2N) (deviation : Float) (weights : List Float) where
       let its = hx ∙ sym (five-enough (m .moments) a ν p ha) ∙ ap (λ y. sigma2Squared (m .moments) y p) hν in
       let negative = ap (λ y. lt (sigma2Squared y μ p) nought) (moments-stay i) ∙ ap (λ y. lt y nought) (sym its) ∙ h in
       hs ∙ sym (ap (looked t) (stays (t .state) μ p negative) ∙ seen-again t (least i)) ∙ ap (searchTo m deviation weights) (sym (add-one i))
+
+  pub row-more : (i : ℕ) (s s′ : Search) (μ : Float) → s ≡ searchTo m deviation weights i → μ ≡ meanOf m deviation (i + 1) → s′ ≡ looked s (walkOf (s .state) μ (getD weights i nan) .state) → s′ ≡ searchTo m deviation weights (i + 1)
+  unfolding searchTo
+  row-more i s s′ μ hs hμ h =
+      h
+      ∙ ap (λ x. looked s (walkOf (s .state) x (getD weights i nan) .state)) (hμ ∙ ap (meanOf m deviation) (add-one i))
+      ∙ ap (λ x. looked x (walkOf (x .state) (meanOf m deviation (suc i)) (getD weights i nan) .state)) hs
+      ∙ ap (searchTo m deviation weights) (sym (add-one i))
