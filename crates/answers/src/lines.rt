@@ -1,5 +1,4 @@
 // Lines out of a stream of bytes that comes in chunks, each answered when its newline comes.
-use crate::kinds;
 use replies::Reply;
 
 // How many bytes of the current line have come, whether it has more than a line may have, how many
@@ -45,7 +44,7 @@ fn reply_to(line: &[u8], xs: &mut [f64], s: State) -> Reply {
     if line.len() < n {
         return Reply::Bad;
     }
-    kinds::answer(&line[..n], xs)
+    requests::answer(&line[..n], xs)
 }
 
 // The line is whole.

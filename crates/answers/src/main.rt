@@ -1,7 +1,6 @@
 // Answers requests, one a line, from standard input to standard output, so that every function of
 // the libraries can be reached from a shell. Thin: the libraries do the work, and are proved; of
 // this program it is proved that it is safe and ends on any input.
-mod kinds; // kinds.rt: which kind of request a line is
 mod lines; // lines.rt: lines out of a stream of bytes
 
 use lines::State;

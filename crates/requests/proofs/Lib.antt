@@ -1,0 +1,3 @@
+-- Laws that belong to no one function, on plain values.
+pub mod Asking
+pub mod Names

@@ -1,0 +1,2 @@
+-- The reply to a line, and what it leaves.
+pub mod Lines
