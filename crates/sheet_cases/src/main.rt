@@ -66,17 +66,26 @@ fn case(sheet: &[u8], answer: &[u8]) {
     tell(sheet, is_answered(&s[..n], &a[..k]));
 }
 
-fn main() {
+// Sheets that are counted.
+fn counted() {
     case(b"orders.sheet", b"orders.rows");
     case(b"empty.sheet", b"empty.rows");
     case(b"sides.sheet", b"sides.rows");
     case(b"instants.sheet", b"instants.rows");
     case(b"lines_1024.sheet", b"lines_1024.rows");
+    case(b"bytes_65536.sheet", b"bytes_65536.rows");
+}
+
+// Sheets of too many lines or bytes.
+fn too_large() {
     case(b"lines_1025.sheet", b"refused_11");
     case(b"lines_1025_and_a_fault.sheet", b"refused_15_1026");
-    case(b"bytes_65536.sheet", b"bytes_65536.rows");
     case(b"bytes_65537.sheet", b"refused_11");
     case(b"bytes_65537_and_a_fault.sheet", b"refused_11");
+}
+
+// Sheets with a line that is no form.
+fn faulty() {
     case(b"no_newline.sheet", b"refused_15_2");
     case(b"crlf.sheet", b"refused_15_1");
     case(b"blank_line.sheet", b"refused_15_2");
@@ -87,4 +96,10 @@ fn main() {
     case(b"upper_case.sheet", b"refused_15_2");
     case(b"two_blanks.sheet", b"refused_15_2");
     case(b"rule_line.sheet", b"refused_15_1");
+}
+
+fn main() {
+    counted();
+    too_large();
+    faulty();
 }
