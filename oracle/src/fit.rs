@@ -181,7 +181,8 @@ pub fn mp_fit(mut words: Words) -> Result<Reply, Stop> {
         .fold(reply, |reply, row| reply.fractions(&six(row))))
 }
 
-fn six(row: &FitResultRow) -> [f64; 6] {
+/// The numbers of a row, in the order of its fields.
+pub fn six(row: &FitResultRow) -> [f64; 6] {
     [
         row.mu_1,
         row.mu_2,

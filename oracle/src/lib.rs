@@ -15,3 +15,4 @@ pub mod refusals;
 pub mod sheet;
 
 pub use answer::answer;
+pub use fit::six;

@@ -9,6 +9,39 @@ pub struct Case<Ask> {
     pub refusal: u64,
 }
 
+impl<Ask> Case<Ask> {
+    /// What must be left: all as it was where the case is one that is refused, else what the Rust leaves.
+    pub fn wanted<Left>(&self, rust: fn(&Ask) -> Left, unchanged: fn(&Ask, u64) -> Left) -> Left {
+        match self.refusal {
+            0 => rust(&self.ask),
+            number => unchanged(&self.ask, number),
+        }
+    }
+
+    /// One line, and one more of the first difference; true where the sides agree.
+    pub fn agree(&self, wanted: &Side, own: &Side) -> bool {
+        if wanted.words == own.words {
+            println!("equal   {}: {}", self.name, own.told);
+            return true;
+        }
+        println!("DIFFERS {}: {} and {}", self.name, wanted.told, own.told);
+        let pairs = wanted.words.iter().zip(&own.words).enumerate();
+        match pairs.into_iter().find(|(_, (theirs, ours))| theirs != ours) {
+            Some((at, (theirs, ours))) => {
+                println!("  number {at}: Rust {theirs:016x}, port {ours:016x}");
+            }
+            None => println!("  numbers: {} and {}", wanted.words.len(), own.words.len()),
+        }
+        false
+    }
+}
+
+/// What a side leaves: in a word or two, and bit for bit.
+pub struct Side {
+    pub told: String,
+    pub words: Vec<u64>,
+}
+
 /// The seed that the command line gives.
 pub fn seed(program: &str) -> u64 {
     let word = std::env::args().nth(1);

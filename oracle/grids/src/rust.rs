@@ -2,6 +2,7 @@
 
 use crate::ask::{Ask, Left, ROW, STATE};
 use oracle::ef3m::{FitResultRow, M2N};
+use oracle::six;
 
 /// The Rust's own answer; it knows none of the port's limits, so the ask must keep within them.
 pub fn answer(ask: &Ask) -> Left {
@@ -59,15 +60,4 @@ fn put(rows: &[FitResultRow], mut left: Left) -> Left {
     }
     left.count = rows.len();
     left
-}
-
-fn six(row: &FitResultRow) -> [f64; ROW] {
-    [
-        row.mu_1,
-        row.mu_2,
-        row.sigma_1,
-        row.sigma_2,
-        row.p_1,
-        row.error,
-    ]
 }

@@ -3,6 +3,7 @@
 use crate::clock::repeated;
 use crate::draws::Draws;
 use crate::measure::{measure, Row};
+use crate::state::own_state;
 use oracle::ef3m;
 use oracle::refusals::rows;
 use std::hint::black_box;
@@ -25,7 +26,7 @@ fn ask(epsilon: f64, variant: usize, runs: usize) -> Ask {
     let theirs = ef3m::M2N::new(moments, epsilon, FACTOR, runs, variant, MAX_ITER, 1);
     let mut draws = Draws::new();
     Ask {
-        ours: crate::own_state(&theirs),
+        ours: own_state(&theirs),
         theirs,
         weights: (0..runs * rows(epsilon)).map(|_| draws.unit()).collect(),
     }

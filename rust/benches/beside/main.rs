@@ -17,6 +17,8 @@ mod prices;
 mod rng;
 mod roots;
 mod spans;
+#[path = "../../tests/beside/state.rs"]
+mod state;
 #[allow(dead_code)]
 #[path = "../../../oracle/src/bin/generate/steps.rs"]
 mod steps;
@@ -30,25 +32,7 @@ mod values;
 mod walks;
 
 use measure::Row;
-use oracle::ef3m;
 use table::{growths, ratios, Growth};
-use woddirme::ef3m::M2N;
-
-/// The same state for the wrapper.
-fn own_state(theirs: &ef3m::M2N) -> M2N {
-    let five = |list: &[f64]| list.try_into().expect("five numbers");
-    M2N {
-        moments: theirs.moments.clone(),
-        epsilon: theirs.epsilon,
-        factor: theirs.factor,
-        n_runs: theirs.n_runs,
-        variant: theirs.variant,
-        max_iter: theirs.max_iter,
-        new_moments: five(&theirs.new_moments),
-        parameters: five(&theirs.parameters),
-        error: theirs.error,
-    }
-}
 
 fn all<'a>(groups: &[&'a [Row]]) -> Vec<&'a Row> {
     groups.iter().copied().flatten().collect()

@@ -6,6 +6,7 @@ mod starts;
 use crate::clock::seconds;
 use crate::measure::{measure, Row};
 use crate::rng::Rng;
+use crate::state::own_state;
 use crate::table::grouped;
 use oracle::ef3m::{self, reach};
 use starts::{anywhere, generated, Start};
@@ -28,7 +29,7 @@ impl Walk {
     fn new(start: Start, steps: usize) -> Walk {
         let theirs = ef3m::M2N::new(start.moments, 0.0, 5.0, 1, start.variant, steps, 1);
         Walk {
-            ours: crate::own_state(&theirs),
+            ours: own_state(&theirs),
             theirs,
             pair: start.pair,
         }
@@ -71,7 +72,7 @@ impl Walk {
         assert_eq!(walk.expect("accepted").count, count, "{:?}", self.ours);
         let left = |fit: &M2N| [&fit.parameters[..], &[fit.error], &fit.new_moments].concat();
         let bits = |fit: &M2N| left(fit).into_iter().map(f64::to_bits).collect::<Vec<_>>();
-        assert_eq!(bits(&ours), bits(&crate::own_state(&theirs)), "{ours:?}");
+        assert_eq!(bits(&ours), bits(&own_state(&theirs)), "{ours:?}");
     }
 }
 

@@ -1,6 +1,7 @@
 use crate::mixture::target;
 use crate::rng::Rng;
-use crate::steps::{own_bits, own_state, their_bits};
+use crate::state::own_state;
+use crate::steps::{own_bits, their_bits};
 use crate::{all_bits, refused};
 use oracle::{ef3m, refusals};
 use woddirme::ef3m as own;

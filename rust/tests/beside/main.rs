@@ -15,6 +15,7 @@ mod numbers;
 #[path = "../../../oracle/src/bin/generate/rng.rs"]
 mod rng;
 mod sheets;
+mod state;
 mod steps;
 #[allow(dead_code)]
 #[path = "../../../oracle/src/bin/generate/values.rs"]

@@ -21,7 +21,7 @@ fn list(rng: &mut Rng, count: usize) -> Vec<f64> {
 fn moments_of_mixtures() {
     let mut rng = Rng::new(3);
     let mut theirs = ef3m::M2N::with_defaults(vec![]);
-    let mut ours = crate::steps::own_state(&theirs);
+    let mut ours = crate::state::own_state(&theirs);
     for _ in 0..100_000 {
         let mut parameters = mixture(&mut rng).parameters();
         if rng.one_in(3) {

@@ -1,27 +1,12 @@
 use crate::mixture::target;
 use crate::rng::Rng;
+use crate::state::own_state;
 use crate::values::any;
 use crate::{all_bits, refused};
 use oracle::ef3m::{self, reach};
 use oracle::refusals;
 use woddirme::ef3m::{Reason, Walk, M2N};
 use woddirme::Refused;
-
-/// The same state for the wrapper.
-pub fn own_state(theirs: &ef3m::M2N) -> M2N {
-    let five = |list: &[f64]| list.try_into().expect("five numbers");
-    M2N {
-        moments: theirs.moments.clone(),
-        epsilon: theirs.epsilon,
-        factor: theirs.factor,
-        n_runs: theirs.n_runs,
-        variant: theirs.variant,
-        max_iter: theirs.max_iter,
-        new_moments: five(&theirs.new_moments),
-        parameters: five(&theirs.parameters),
-        error: theirs.error,
-    }
-}
 
 /// What a walk or a search changes.
 pub fn own_bits(ours: &M2N) -> Vec<u64> {
