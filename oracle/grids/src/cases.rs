@@ -25,8 +25,8 @@ impl<Ask> Case<Ask> {
             return true;
         }
         println!("DIFFERS {}: {} and {}", self.name, wanted.told, own.told);
-        let pairs = wanted.words.iter().zip(&own.words).enumerate();
-        match pairs.into_iter().find(|(_, (theirs, ours))| theirs != ours) {
+        let mut pairs = wanted.words.iter().zip(&own.words).enumerate();
+        match pairs.find(|(_, (theirs, ours))| theirs != ours) {
             Some((at, (theirs, ours))) => {
                 println!("  number {at}: Rust {theirs:016x}, port {ours:016x}");
             }
