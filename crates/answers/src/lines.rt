@@ -3,7 +3,7 @@ use replies::Reply;
 
 // How many bytes of the current line have come, whether it has more than a line may have, how many
 // bytes of answers wait in `out`, and whether the input is over.
-#[derive(Drop)]
+#[derive(Clone, Copy)]
 pub(crate) struct State {
     pub(crate) len: usize,
     pub(crate) long: bool,

@@ -1,6 +1,8 @@
 // Answers requests, one a line, from standard input to standard output, so that every function of
 // the libraries can be reached from a shell. Thin: the libraries do the work, and are proved; of
 // this program it is proved that it is safe and ends on any input.
+#![tactic(auto)]
+
 mod lines; // lines.rt: lines out of a stream of bytes
 
 use lines::State;

@@ -1,4 +1,6 @@
 // How many bets of each side are live at the start of each, from their sides and lifespans.
+#![tactic(auto)]
+
 pub mod counts; // counts.rt: the counts
 pub mod refusals; // refusals.rt: what is turned away
 pub mod sorting; // sorting.rt: sorted lists of keys
@@ -6,7 +8,7 @@ pub mod sorting; // sorting.rt: sorted lists of keys
 pub use counts::get_concurrent_sides;
 
 // How many places of each lent list were written, or why none was: document 01's number.
-#[derive(Drop)]
+#[derive(Clone, Copy)]
 pub enum Outcome {
     Unwritten(u64),
     Written(usize),

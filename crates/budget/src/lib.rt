@@ -1,4 +1,6 @@
 // The budget size: the live longs over their largest number, less the same of the shorts.
+#![tactic(auto)]
+
 ghost use Rattle.std.specs.Prelude.{◌≡◌, ◌++◌, ◌≤◌, length, drop};
 ghost use Rattle.budget.specs.Budget.{BetSizeBudget, largest, share};
 ghost use Rattle.budget.specs.Sizes.{sizes_of};

@@ -1,4 +1,6 @@
 // The counts and the budget sizes, for C (include/woddirme.h).
+#![tactic(auto)]
+
 ghost use Rattle.std.specs.Prelude.{◌≡◌};
 ghost use Rattle.capi_bets.specs.Bets.{BudgetLeaves, SidesLeave, spans_number};
 

@@ -1,6 +1,8 @@
 // The moments of a mixture, and the change between raw and centred moments, for C. Each answers 0, or the
 // number of the refusal, which leaves all as it was. A slice is a pointer and a length.
 // include/woddirme.h declares them.
+#![tactic(auto)]
+
 ghost use Rattle.std.specs.Prelude.{◌≡◌, ◌≤◌, length};
 ghost use Rattle.moments.specs.Mixture.{get_moments};
 ghost use Rattle.moments.specs.Refusals.{centred_moment, raw_moment, raw_out};

@@ -1,5 +1,7 @@
 // The root, powers, casts and comparisons, for C, each one call of the library's. include/woddirme.h
 // declares them.
+#![tactic(auto)]
+
 ghost use Rattle.std.specs.Prelude.{◌≡◌};
 ghost use Rattle.std.specs.Float.{binary64};
 ghost use Rattle.std.specs.Float.Ieee.{of_int, to_signed, to_unsigned};

@@ -1,4 +1,6 @@
 // Widths and prices on the sigmoid curve, for C (include/woddirme.h).
+#![tactic(auto)]
+
 ghost use Rattle.std.specs.Prelude.{◌≡◌};
 ghost use Rattle.prices.specs.Prices.{get_w_sigmoid, inv_price_sigmoid};
 ghost use Rattle.limit_price.specs.LimitPrice.{limit_price_sigmoid};

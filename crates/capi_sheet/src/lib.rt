@@ -1,4 +1,6 @@
 // The count sheet, for C. A slice is a pointer and a length. include/woddirme.h declares it.
+#![tactic(auto)]
+
 ghost use Rattle.text.specs.Print.{Placed};
 ghost use Rattle.sheet.specs.CountSheet.{count_sheet};
 

@@ -1,4 +1,6 @@
 // The fit state as a C program holds it: the target moments, a few numbers, and 12 flat ones.
+#![tactic(auto)]
+
 ghost use Rattle.std.specs.Prelude.{◌≡◌, set};
 ghost use Rattle.capi_states.specs.States.{at, sixteen, state_of, with_moments, with_params, with_state};
 

@@ -1,5 +1,7 @@
 // One step and a walk, for C (include/woddirme.h): a slice is a pointer and a length. Each answers 0, or
 // the number of the refusal, which leaves all as it was.
+#![tactic(auto)]
+
 ghost use Rattle.std.specs.Prelude.{◌≡◌, ◌≤◌, length};
 ghost use Rattle.iterate.specs.Refusals.{iter4, iter5};
 ghost use Rattle.capi_steps.specs.Steps.{StepLeaves, count_if, number_of, roomed, with_step};

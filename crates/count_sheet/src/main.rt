@@ -1,10 +1,12 @@
 // The count sheet: a sheet of open orders from standard input; its rows, or the one line that
 // refuses it, to standard output. Thin: `sheet::count_sheet` makes the answer, and is proved.
+#![tactic(auto)]
+
 ghost use Rattle.std.specs.Prelude.{length, ◌≡◌};
 ghost use Rattle.count_sheet.specs.Input.{Within};
 
 // How many bytes came, or that a read failed.
-#[derive(Drop)]
+#[derive(Clone, Copy)]
 enum Input {
     Bytes(usize),
     Failed,

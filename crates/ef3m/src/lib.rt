@@ -1,4 +1,6 @@
 // The Rust's call with `&mut self`: a state lent to one search.
+#![tactic(auto)]
+
 ghost use Rattle.std.specs.Prelude.{◌≡◌};
 ghost use Rattle.grid.specs.Search.{single_fit};
 ghost use Rattle.ef3m.specs.Lent.{searched};
@@ -7,13 +9,13 @@ use grid::{Epsilon, Fitted, Outcome};
 use walk::M2N;
 
 // The fit state, in a type of this crate, so that it can have a method.
-#[derive(Drop)]
+#[derive(Clone, Copy)]
 pub struct Fitter {
     pub m2n: M2N,
 }
 
 // The fitter after a search, and how it went.
-#[derive(Drop)]
+#[derive(Clone, Copy)]
 struct Searched {
     state: Fitter,
     outcome: Outcome,

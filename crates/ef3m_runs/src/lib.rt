@@ -1,4 +1,6 @@
 // The Rust's several runs, with the rows in a list that the caller lends.
+#![tactic(auto)]
+
 ghost use Rattle.std.specs.Prelude.{◌≡◌, ◌++◌, ◌+◌, ◌*◌, ◌≤◌, length, drop};
 ghost use Rattle.fit_runs.specs.Runs.{mp_fit, mp_rows, row_at, rows_at};
 
@@ -46,7 +48,7 @@ pub fn mp_fit(m: M2N, weights: &[f64], rows: &mut [FitResultRow]) -> Filled
 }
 
 // 64 rows after several runs, and how many of them are new.
-#[derive(Drop)]
+#[derive(Clone, Copy)]
 pub struct Runs {
     pub rows: [FitResultRow; 64],
     pub outcome: Filled,

@@ -1,4 +1,6 @@
 // What one search and several runs turn away, in document 01's order.
+#![tactic(auto)]
+
 ghost use Rattle.std.specs.Prelude.{◌≡◌, ◌&&◌, ◌≤◌, length};
 ghost use Rattle.fit_refusals.specs.Refusals.{all_weights, grid_refusal, is_spacing, is_variant, is_weight, rows_of, rows_refusal, runs_refusal, weights_refusal};
 

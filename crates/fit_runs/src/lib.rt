@@ -1,4 +1,6 @@
 // Several searches: the Rust's mp_fit, rows as flat numbers.
+#![tactic(auto)]
+
 ghost use Rattle.std.specs.Prelude.{◌≡◌, ◌+◌, ◌*◌, ◌≤◌, length};
 ghost use Rattle.fit_runs.specs.Runs.{Runnable, all_runs, flat_fit, put_in, rows_out};
 
@@ -6,14 +8,14 @@ use grid::{Best, Epsilon, Outcome};
 use walk::M2N;
 
 // Why no run was done, or how many rows there are.
-#[derive(Drop)]
+#[derive(Clone, Copy)]
 pub enum Filled {
     Unfilled(u64),
     Rows(usize),
 }
 
 // The rows of several runs as flat numbers, six each, zeros behind them.
-#[derive(Drop)]
+#[derive(Clone, Copy)]
 pub struct Flat {
     pub numbers: [f64; 384],
     pub count: usize,

@@ -1,4 +1,6 @@
 // One search over a grid of starting means, by value.
+#![tactic(auto)]
+
 ghost use Rattle.std.specs.Prelude.{◌≡◌};
 ghost use Rattle.grid.specs.Search.{single_fit};
 
@@ -8,7 +10,7 @@ pub mod rows; // rows.rt: a row, and how the best fit becomes one
 pub mod search; // search.rt: a search that is not refused
 
 // One fitted mixture.
-#[derive(Drop)]
+#[derive(Clone, Copy)]
 pub struct FitResultRow {
     pub mu_1: f64,
     pub mu_2: f64,
@@ -19,28 +21,28 @@ pub struct FitResultRow {
 }
 
 // At most one row.
-#[derive(Drop)]
+#[derive(Clone, Copy)]
 pub enum Best {
     Nothing,
     Row(FitResultRow),
 }
 
 // The epsilon in force: one given for this search, or the state's own.
-#[derive(Drop)]
+#[derive(Clone, Copy)]
 pub enum Epsilon {
     Override(f64),
     Own,
 }
 
 // Refused by document 01's number, or ended with at most one row.
-#[derive(Drop)]
+#[derive(Clone, Copy)]
 pub enum Outcome {
     Refused(u64),
     Ended(Best),
 }
 
 // The state after a search, and how it went.
-#[derive(Drop)]
+#[derive(Clone, Copy)]
 pub struct Fitted {
     pub state: M2N,
     pub outcome: Outcome,

@@ -7,7 +7,7 @@ use grid_rows::Kept;
 use walk::M2N;
 
 // The state after a search, and its row.
-#[derive(Drop)]
+#[derive(Clone, Copy)]
 pub(crate) struct Searched {
     pub(crate) state: M2N,
     pub(crate) best: Best,

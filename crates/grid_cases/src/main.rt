@@ -1,5 +1,7 @@
 // Searches that want more weights than a request line holds, on M = (1, 4.5, 16, 81.5, 416) with
 // every weight 0.5: a line for each says how it ended. The rows are the Rust's.
+#![tactic(auto)]
+
 use grid::{Best, Epsilon, FitResultRow, Outcome};
 use moments::{Five, Params};
 use walk::M2N;

@@ -1,4 +1,6 @@
 // The rows of a search, each a walk from its mean and its weight.
+#![tactic(auto)]
+
 ghost use Rattle.std.specs.Prelude.{◌≡◌, ◌+◌, ◌≤◌, min, length};
 ghost use Rattle.moments.specs.Figures.{listed};
 ghost use Rattle.walk.specs.Walk.{walk_of};
@@ -8,14 +10,14 @@ use moments::{Five, Params};
 use walk::M2N;
 
 // What the rows so far have kept: the parameters and the error of the best row, if there is one.
-#[derive(Drop)]
+#[derive(Clone, Copy)]
 pub enum Kept {
     Nothing,
     Row(Params, f64),
 }
 
 // The state, the smallest error of a row so far, and the row that has it.
-#[derive(Drop)]
+#[derive(Clone, Copy)]
 pub struct Search {
     pub state: M2N,
     pub err_min: f64,

@@ -1,11 +1,13 @@
 // One step of the fit over a list of moments, with its refusals.
+#![tactic(auto)]
+
 ghost use Rattle.std.specs.Prelude.{◌≡◌};
 ghost use Rattle.iterate.specs.Refusals.{iter4, iter5};
 
 use moments::Five;
 use step::Step;
 
-#[derive(Drop)]
+#[derive(Clone, Copy)]
 pub enum Iterate {
     Refused(u64),
     Stepped(Step),

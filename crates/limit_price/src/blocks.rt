@@ -11,7 +11,7 @@ ghost use Rattle.prices.specs.Prices.{◌⊘◌, denominator, inv_price_sigmoid}
 ghost use Rattle.limit_price.specs.LimitPrice.{lot_number, lot_price, summed};
 
 // The sum over the lots walked, and the last of them.
-#[derive(Drop)]
+#[derive(Clone, Copy)]
 pub(crate) struct Walked {
     pub(crate) sum: f64,
     pub(crate) lot: i64,

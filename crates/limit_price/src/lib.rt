@@ -1,5 +1,7 @@
 // The limit price: the mean of the prices, on the sigmoid curve, of the lots from one position to
 // another.
+#![tactic(auto)]
+
 ghost use Rattle.std.specs.Prelude.{◌≡◌, ℕ, ◌≤◌, nat_abs};
 ghost use Rattle.std.proofs.Math.IntN.{sub_ℕ};
 ghost use Rattle.std.specs.Int.{w64};
@@ -9,7 +11,7 @@ ghost use Rattle.limit_price.specs.LimitPrice.{limit_price_sigmoid, lot_number, 
 mod blocks; // blocks.rt: the prices of 32 lots at a time
 
 // Refused by document 01's number, or the mean price of the lots walked.
-#[derive(Drop)]
+#[derive(Clone, Copy)]
 pub enum Limit {
     Refused(u64),
     Price(f64),

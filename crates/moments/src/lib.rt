@@ -1,4 +1,6 @@
 // Moments of a mixture of two normal curves, and the change between raw and centred moments.
+#![tactic(auto)]
+
 ghost use Rattle.std.specs.Prelude.{◌≡◌, ◌≤◌, length, get_or};
 ghost use Rattle.std.specs.Float.{nan};
 ghost use Rattle.moments.specs.Comb.{choose};
@@ -7,7 +9,7 @@ ghost use Rattle.moments.specs.Orders.{numbered, raw_sum};
 ghost use Rattle.moments.specs.Refusals.{at_least_one, centred_moment, raw_moment, raw_out};
 
 // The parameters of a mixture: weight p_1 on N(mu_1, sigma_1²) and 1 - p_1 on N(mu_2, sigma_2²).
-#[derive(Drop)]
+#[derive(Clone, Copy)]
 pub struct Params {
     pub mu_1: f64,
     pub mu_2: f64,
@@ -17,7 +19,7 @@ pub struct Params {
 }
 
 // The first five raw moments.
-#[derive(Drop)]
+#[derive(Clone, Copy)]
 pub struct Five {
     pub m_1: f64,
     pub m_2: f64,
@@ -26,14 +28,14 @@ pub struct Five {
     pub m_5: f64,
 }
 
-#[derive(Drop)]
+#[derive(Clone, Copy)]
 pub enum Centred {
     Refused(u64),
     Value(f64),
 }
 
 // How many raw moments were written, or why none was.
-#[derive(Drop)]
+#[derive(Clone, Copy)]
 pub enum Remade {
     Unwritten(u64),
     Written(usize),

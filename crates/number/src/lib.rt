@@ -1,5 +1,7 @@
 // The number leaves: powers, casts and comparisons of f64, each as the Rust has it, for every
 // input. Each operation rounds once; NaNs are one class. And a whole number as a key.
+#![tactic(auto)]
+
 ghost use Rattle.std.specs.Prelude.{◌≡◌};
 ghost use Rattle.std.specs.Float.{binary64};
 ghost use Rattle.std.specs.Float.Ieee.{of_int, to_signed, to_unsigned};

@@ -1,4 +1,6 @@
 // Prices on the sigmoid curve m(x) = x / √(w + x²), each rounded operation in the Rust's order.
+#![tactic(auto)]
+
 ghost use Rattle.std.specs.Prelude.{◌≡◌};
 ghost use Rattle.prices.specs.Prices.{get_w_sigmoid, infinite, inv_price_sigmoid, overflown, spoilt, width_lost};
 

@@ -1,4 +1,6 @@
 // Replies as they are printed, each a line of its own: docs/REQUESTS.md lists them.
+#![tactic(auto)]
+
 ghost use Rattle.text.specs.Bytes.{bytes};
 ghost use Rattle.text.specs.Print.{Placed};
 ghost use Rattle.printing.specs.Lines.{head, line};

@@ -1,4 +1,6 @@
 // The values of a reply, put one after another.
+#![tactic(auto)]
+
 ghost use Rattle.printing_values.specs.Texts.{Puts};
 ghost use Rattle.printing_values.specs.Values.{values};
 

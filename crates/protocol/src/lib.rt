@@ -1,5 +1,7 @@
 // The line protocol: the words of a request. Lists of them are the crate `protocol_lists`, the replies the
 // crate `replies`; each crate of kinds of requests stands on these.
+#![tactic(auto)]
+
 ghost use Rattle.std.specs.Prelude.{min, ◌≡◌, drop};
 ghost use Rattle.text.specs.Decode.{word};
 ghost use Rattle.text.specs.Meaning.{instant_is, number_is};
@@ -19,7 +21,7 @@ pub fn begins(s: &[u8], name: &[u8]) -> bool
 }
 
 // A fraction and the place after it.
-#[derive(Drop)]
+#[derive(Clone, Copy)]
 pub enum Fraction {
     Is(f64, usize),
     No,

@@ -1,4 +1,6 @@
 // Lists of instants in a request, read as `protocol_lists` reads those of fractions.
+#![tactic(auto)]
+
 ghost use Rattle.std.specs.Prelude.{◌≡◌, drop, set};
 ghost use Rattle.protocol.specs.Words.{next_instant};
 ghost use Rattle.protocol_lists.specs.Lists.{list_in, list_is, next_instants};

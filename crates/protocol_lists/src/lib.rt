@@ -1,4 +1,6 @@
 // Lists in a request, and the state that one begins from.
+#![tactic(auto)]
+
 ghost use Rattle.std.specs.Prelude.{◌≡◌, drop, length, set};
 ghost use Rattle.text.specs.Meaning.{next_is};
 ghost use Rattle.protocol.specs.Words.{next_fraction};
@@ -39,7 +41,7 @@ pub fn read_rest(s: &[u8], at: usize, xs: &mut [f64]) -> bool
 }
 
 // A state: parameters, error, new moments, and the place after it.
-#[derive(Drop)]
+#[derive(Clone, Copy)]
 pub enum State {
     Is(Params, f64, Five, usize),
     No,
@@ -81,7 +83,7 @@ pub fn read_next_state(s: &[u8], at: usize) -> State
 }
 
 // How many entries a list has, and the place after it.
-#[derive(Drop)]
+#[derive(Clone, Copy)]
 pub enum List {
     Is(usize, usize),
     No,

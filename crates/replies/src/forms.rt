@@ -5,7 +5,7 @@ ghost use Rattle.replies.specs.Replies.{is_bad};
 use moments::{Five, Params};
 
 // How a walk ended, and the state after it.
-#[derive(Drop)]
+#[derive(Clone, Copy)]
 pub struct Report {
     pub count: u64,
     pub reason: u64,
@@ -15,7 +15,7 @@ pub struct Report {
 }
 
 // How a search ended: its row, if there is one, and the state after it.
-#[derive(Drop)]
+#[derive(Clone, Copy)]
 pub struct Search {
     pub is_row: bool,
     pub row: Params,
@@ -29,14 +29,14 @@ pub struct Search {
 // A row for each span: how many spans, whether one or two columns of fractions, and the place in the
 // request before its list of starts. The columns stand in a list beside the reply, the second from
 // the middle of the list on.
-#[derive(Drop)]
+#[derive(Clone, Copy)]
 pub struct SpanRows {
     pub count: usize,
     pub columns: usize,
     pub starts: usize,
 }
 
-#[derive(Drop)]
+#[derive(Clone, Copy)]
 pub enum Reply {
     // the line is no request
     Bad,

@@ -1,5 +1,7 @@
 // The replies to requests; the crate `printing` prints them. Each crate of kinds of requests stands on
 // this one and on `protocol`.
+#![tactic(auto)]
+
 pub mod forms; // forms.rt: the replies
 
 pub use forms::{Reply, Report, Search, SpanRows, is_bad};

@@ -1,5 +1,7 @@
 // Which kind of request a line is. A kind to which the line does not belong replies `Bad`, and the
 // next is asked. Answers that are lists are left in xs.
+#![tactic(auto)]
+
 ghost use Rattle.std.specs.Prelude.{◌≡◌, length};
 ghost use Rattle.moment_requests.specs.Orders.{orders_in};
 ghost use Rattle.run_requests.specs.Runs.{runs_in};

@@ -1,5 +1,7 @@
 // The square root of an f64, rounded once. A guess in floats is checked exactly on whole numbers;
 // where it fails, the root is found digit by digit. So nothing need be known of the guess.
+#![tactic(auto)]
+
 ghost use Rattle.std.specs.Prelude.{◌≡◌, true, ◌+◌, ◌*◌, ◌^◌, ◌≤◌, ◌<◌};
 ghost use Rattle.std.specs.Float.{binary64};
 ghost use Rattle.std.specs.Float.Ieee.{lt};
@@ -11,14 +13,14 @@ ghost use Rattle.root.specs.Steps.{Lifted, Near, Pattern, Rounded, Scales, Whole
 const LEAD: u64 = 0x10_0000_0000_0000;
 
 // A root's 53 digits, and what is left.
-#[derive(Drop)]
+#[derive(Clone, Copy)]
 struct Found {
     q: u64,
     rest: u64,
 }
 
 // The digits of a number with the leading one at 2^52, and its exponent counted from 2^-2148.
-#[derive(Drop)]
+#[derive(Clone, Copy)]
 struct Digits {
     m: u64,
     g: u64,

@@ -72,7 +72,7 @@ fn mp_fit_from(s: &[u8], at: usize, variant: u64, m: [f64; 16], n: usize, xs: &m
 }
 
 // The numbers between the moments and the STATE.
-#[derive(Drop)]
+#[derive(Clone, Copy)]
 struct Settings {
     epsilon: f64,
     factor: f64,
@@ -82,7 +82,7 @@ struct Settings {
 }
 
 // The numbers, and the place after them.
-#[derive(Drop)]
+#[derive(Clone, Copy)]
 enum Given {
     Are(Settings, usize),
     No,

@@ -73,7 +73,7 @@ fn search_from(s: &[u8], at: usize, variant: u64, m: [f64; 16], n: usize) -> Rep
 }
 
 // The epsilon that is given for this search, and the place after it.
-#[derive(Drop)]
+#[derive(Clone, Copy)]
 enum Given {
     Is(Epsilon, usize),
     No,

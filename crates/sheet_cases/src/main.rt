@@ -1,4 +1,6 @@
 // Sheets from files, each beside the answer that it must have: a line for each says whether it has.
+#![tactic(auto)]
+
 ghost use Rattle.std.specs.Prelude.{length, ◌≡◌};
 
 use text::Next;

@@ -1,4 +1,6 @@
 // Span forms, read from a place of a slice on. Any place is taken.
+#![tactic(auto)]
+
 ghost use Rattle.std.specs.Prelude.{◌≡◌, drop};
 ghost use Rattle.sheet_forms.specs.Forms.{line_form, span_form};
 ghost use Rattle.sheet_forms.specs.Meaning.{form_is};
@@ -6,7 +8,7 @@ ghost use Rattle.sheet_forms.specs.Meaning.{form_is};
 use text::{Instant, Next, Number};
 
 // A span: live from `from` on, up to but not at `to`, with the bits of its side.
-#[derive(Drop)]
+#[derive(Clone, Copy)]
 pub struct Span {
     pub from: i64,
     pub to: i64,
@@ -14,7 +16,7 @@ pub struct Span {
 }
 
 // A span, and the place after its form.
-#[derive(Drop)]
+#[derive(Clone, Copy)]
 pub enum Form {
     Is(Span, usize),
     No,

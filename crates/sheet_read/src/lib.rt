@@ -1,5 +1,7 @@
 // The spans of a sheet, read into lists that the caller lends. It is gone through twice, to be
 // checked and then to be taken, so that a sheet that is turned away leaves the lists as they are.
+#![tactic(auto)]
+
 ghost use Rattle.std.specs.Prelude.{◌≡◌, min};
 ghost use Rattle.sheet_read.specs.Meaning.{Fillable, HeldBy, SheetRead, answer_of};
 ghost use Rattle.sheet_read.specs.Sheet.{sheet};
@@ -8,7 +10,7 @@ ghost use Rattle.sheet_read.specs.Spelling.{OneSpelling};
 use sheet_forms::Form;
 
 // How many spans a sheet has; or the number by which it is refused; or that number and a line.
-#[derive(Drop)]
+#[derive(Clone, Copy)]
 pub enum Sheet {
     Accepted(usize),
     Refused(u64),

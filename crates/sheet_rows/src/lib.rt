@@ -1,4 +1,6 @@
 // Row forms, put into a buffer. Any place is taken.
+#![tactic(auto)]
+
 ghost use Rattle.std.specs.Prelude.{◌≤◌, length};
 ghost use Rattle.text.specs.Print.{Fronts, Placed};
 ghost use Rattle.sheet_rows.specs.Rows.{row_line};

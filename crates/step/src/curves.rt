@@ -6,7 +6,7 @@ use crate::variance;
 use moments::Five;
 
 // mu_1, sigma_1 and sigma_2, or that a test before them failed.
-#[derive(Drop)]
+#[derive(Clone, Copy)]
 pub(crate) enum Curves {
     Found(f64, f64, f64),
     Inadmissible,

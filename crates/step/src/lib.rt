@@ -1,4 +1,6 @@
 // One step of the EF3M fit, on four moments and on five.
+#![tactic(auto)]
+
 mod curves; // curves.rt: what both begin with
 pub mod variance; // variance.rt: sigma_2^2 by itself
 
@@ -11,7 +13,7 @@ use moments::{Five, Params};
 pub use variance::sigma_2_squared;
 
 // What a step answers: the five numbers, or that it is inadmissible.
-#[derive(Drop)]
+#[derive(Clone, Copy)]
 pub enum Step {
     Admitted(Params),
     Inadmissible,

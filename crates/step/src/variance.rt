@@ -7,7 +7,7 @@ ghost use Rattle.step.specs.Steps.{sigma2_squared};
 use moments::Five;
 
 // mu_1, the divisor den_24 and sigma_2^2, which means nothing where den_24 is zero.
-#[derive(Drop)]
+#[derive(Clone, Copy)]
 pub(crate) struct Variance {
     pub(crate) mu_1: f64,
     pub(crate) den_24: f64,

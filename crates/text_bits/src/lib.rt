@@ -1,4 +1,6 @@
 // A float and its bits. NaNs are one class: each pattern of one reads as NaN, and one is written.
+#![tactic(auto)]
+
 ghost use Rattle.std.specs.Prelude.{◌≡◌};
 ghost use Rattle.std.specs.Float.{binary64};
 ghost use Rattle.std.specs.Float.Ieee.{of_bits, to_bits};

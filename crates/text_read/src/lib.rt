@@ -1,5 +1,7 @@
 // Words and numbers, read from a place of a slice on. Any place is taken: past the end there is
 // nothing to read.
+#![tactic(auto)]
+
 ghost use Rattle.std.specs.Prelude.{◌≡◌, ◌-◌, ◌≤◌, ◌<◌, ◌^◌, drop, negsuc};
 ghost use Rattle.text.specs.Decode.{hexes, instant, natural, nibble, numeral, up_to, word};
 ghost use Rattle.text.specs.Meaning.{instant_is, next_is, number_is};

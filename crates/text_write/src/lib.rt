@@ -1,4 +1,6 @@
 // Texts put into a lent buffer, each whole or not at all, so that a buffer never holds a part.
+#![tactic(auto)]
+
 ghost use Rattle.std.specs.Prelude.{◌≡◌, negsuc, pos, ◌<ℤ◌};
 ghost use Rattle.text.specs.Print.{Placed, decimal, hex, shown};
 

@@ -1,5 +1,7 @@
 // The walk of a fit: steps from a starting mean and weight until one settles, is inadmissible, or the
 // step limit is reached. The best parameters met on the way are kept.
+#![tactic(auto)]
+
 ghost use Rattle.std.specs.Prelude.{◌≡◌, true, ◌≤◌, ◌<◌, min};
 ghost use Rattle.moments.specs.Figures.{listed};
 ghost use Rattle.walk.specs.Parts.{Turned, fit_after, reason_for, with_fit_of};
@@ -10,7 +12,7 @@ use moments::{Five, Params};
 use step::Step;
 
 // The fit state: the target moments (the first `len` of 16), the settings, and the best fit so far.
-#[derive(Drop)]
+#[derive(Clone, Copy)]
 pub struct M2N {
     pub moments: [f64; 16],
     pub len: usize,
@@ -25,7 +27,7 @@ pub struct M2N {
 }
 
 // The part of the state that a walk changes.
-#[derive(Drop)]
+#[derive(Clone, Copy)]
 struct Fit {
     new_moments: Five,
     parameters: Params,
@@ -33,7 +35,7 @@ struct Fit {
 }
 
 // A pair of the walk, and how many steps led to it.
-#[derive(Drop)]
+#[derive(Clone, Copy)]
 struct Seen {
     mu: f64,
     p: f64,
@@ -41,7 +43,7 @@ struct Seen {
 }
 
 // How many steps are taken, and the pair to look out for.
-#[derive(Drop)]
+#[derive(Clone, Copy)]
 struct Turn {
     count: usize,
     seen: Seen,
@@ -49,14 +51,14 @@ struct Turn {
 
 // Refused by document 01's number; or ended after so many steps, for the reason 1 spent, 2 settled, 3
 // inadmissible.
-#[derive(Drop)]
+#[derive(Clone, Copy)]
 pub enum Outcome {
     Refused(u64),
     Ended(usize, u64),
 }
 
 // The state after a walk, and how it went.
-#[derive(Drop)]
+#[derive(Clone, Copy)]
 pub struct Walked {
     pub state: M2N,
     pub outcome: Outcome,
