@@ -1,0 +1,17 @@
+-- `number::as_usize` meets its contract: in range, above, or below and NaN (`Casts.antt`). Assumes nothing.
+use Rattle.std.proofs.Common.{T, sym, subst}
+use lib.Ieee.{of_bits, neg}
+use Rattle.number.proofs.Casts.{unsigned_high, unsigned_low}
+use Rattle.number.proofs.as_usize.Goals as goal
+
+pub truncating_f64_to_u64-requires : goal.truncating_f64_to_u64-requires
+unfolding of_bits neg
+truncating_f64_to_u64-requires c = record { lower_bound = subst T (sym c.if-x.true) tt; upper_bound = subst T (sym c.if-x-2.true) tt }
+
+pub returns-then-x : goal.returns-then-x
+unfolding of_bits neg
+returns-then-x c = unsigned_high 64 c.args.x c.if-x.true c.if-x-2.false
+
+pub returns : goal.returns
+unfolding of_bits neg
+returns c = unsigned_low 64 c.args.x c.if-x.false
