@@ -154,7 +154,7 @@ def paths(text, steps):
 
     def one(m):
         w = m.group(1)
-        return "." + steps.get(norm_step(w), w)
+        return "." + (steps.get(norm_step(w)) or w.replace("-", "_"))
 
     return re.sub(r"\.([A-Za-z][A-Za-z0-9_'-]*)", one, text)
 
@@ -165,17 +165,14 @@ def turn_loop(body, local, kind, new, variables, changed):
     params = head.group(1).split()
     count = len([c for c in changed if c])
     olds = [v for v, c in zip(variables, changed) if c]
-    fixed = [v for v, c in zip(variables, changed) if not c]
     expect = len(variables) + count
     where = {}
     note = ""
     if len(params) == expect:
-        # as the old form has them: what stays, then each at the loop's begin, then each now
-        for p, v in zip(params[: len(fixed)], fixed):
-            where[p] = "l." + v
-        for p, v in zip(params[len(fixed): len(fixed) + count], olds):
-            where[p] = "l.initial." + v
-        for p, v in zip(params[len(fixed) + count:], olds):
+        # as the old form has them: each variable at the loop's begin, then what the loop changes as it is now
+        for p, v, c in zip(params, variables, changed):
+            where[p] = ("l.initial." if c else "l.") + v
+        for p, v in zip(params[len(variables):], olds):
             where[p] = "l." + v
     else:
         note = "-- params %s; variables %s changed %s" % (params, variables, changed)

@@ -3,12 +3,8 @@ use mathlib.Core.Path.{refl}
 use lib.Ieee.{of_bits}
 use Rattle.float.specs.Power.{power_of}
 use Rattle.moments.specs.Mixture.{get_moments}
-use Rattle.moments.proofs.get_moments.Statement.{statement}
-use Rattle.moments.proofs.get_moments.Tie as tie
+use Rattle.moments.proofs.get_moments.Goals as goal
 
-returns : tie.Need-returns
+pub returns : goal.returns
 unfolding get_moments power_of of_bits
 returns c = refl
-
-pub get-moments-spec : {M : Type 1} → statement M
-get-moments-spec = tie.close (tie.spec returns)

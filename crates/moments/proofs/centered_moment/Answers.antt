@@ -1,0 +1,45 @@
+-- `moments::centered_moment` meets its contract: after j turns the sum has j terms (`Turns.antt`). Assumes nothing.
+use mathlib.Core.Path.{◌≡◌}
+use mathlib.Core.List.{[]}
+use Prim.Native.Nat.{◌≤◌, ◌+◌, ◌-◌}
+use lib.Ieee.{of_bits, neg}
+use borrow.Author.Rules.{rules}
+use native.Mathlib.Omega.{arith}
+use Rattle.formula.specs.Formula.{eval}
+use Rattle.formula.specs.Whole.{sum_of}
+use Rattle.moments.specs.Orders.{numbered, centred_term}
+use Rattle.moments.proofs.Turns.{centred_start, centred_turn, centred_9, centred_1, centred_2, centred_done, some}
+use Rattle.moments.proofs.centered_moment.Goals as goal
+
+pub returns-then-order-gt16 : goal.returns-then-order-gt16
+returns-then-order-gt16 c = centred_9 _ _ c.if-order-gt16.true
+
+pub returns-then-moments-at_least_one : goal.returns-then-moments-at_least_one
+returns-then-moments-at_least_one c = centred_1 _ _ _ c.if-order-gt16.false c.at_least_one.ensures c.if-moments-at_least_one.true
+
+pub returns-then-moments-gt16 : goal.returns-then-moments-gt16
+returns-then-moments-gt16 c = centred_2 _ _ _ c.if-order-gt16.false c.at_least_one.ensures c.if-moments-at_least_one.false c.if-moments-gt16.true
+
+pub loop-j-init : goal.loop-j-init
+unfolding of_bits
+loop-j-init c = (omega arith, centred_start _ _)
+
+pub bounds-moments-0 : goal.bounds-moments-0
+bounds-moments-0 c = let two = c in
+    omega (arith, (some two.args.order _ _ two.at_least_one.ensures two.if-moments-at_least_one.false).0)
+
+pub numbered_at-a_1-requires : goal.numbered_at-a_1-requires
+numbered_at-a_1-requires c = let two = c in
+    omega (arith, (some two.args.order _ _ two.at_least_one.ensures two.if-moments-at_least_one.false).1)
+
+pub loop-j-preserved : goal.loop-j-preserved
+unfolding of_bits neg
+loop-j-preserved c = let l = c in (
+      omega arith,
+      centred_turn _ _ l.loop-j.j _ _ _ _ _ l.loop-j.invariant.1 c.powi-sign.ensures c.comb-combin.ensures c.powi-p.ensures c.numbered_at-a_1.ensures,
+    )
+
+pub returns : goal.returns
+returns c = let two = c in
+    let e : c.loop-j.j ≡ two.args.order + 1 = omega arith in
+    centred_done _ _ _ c.loop-j.j _ two.if-order-gt16.false two.at_least_one.ensures two.if-moments-at_least_one.false c.if-moments-gt16.false e c.loop-j.invariant.1

@@ -1,0 +1,24 @@
+-- `moments::raw_one` meets its contract: after k turns the sum has k terms (`Turns.antt`). Assumes nothing.
+use mathlib.Core.Path.{◌≡◌}
+use mathlib.Core.List.{[], ◌∷◌}
+use Prim.Native.Nat.{◌≤◌, ◌+◌, ◌-◌}
+use lib.Ieee.{of_bits}
+use borrow.Author.Rules.{rules}
+use native.Mathlib.Omega.{arith}
+use Rattle.formula.specs.Formula.{eval}
+use Rattle.formula.specs.Whole.{sum_of}
+use Rattle.moments.specs.Orders.{numbered, raw_term}
+use Rattle.moments.proofs.Turns.{raw_start, raw_turn, raw_end}
+use Rattle.moments.proofs.raw_one.Goals as goal
+
+pub loop-k-init : goal.loop-k-init
+unfolding of_bits
+loop-k-init c = (omega arith, raw_start _ _ _)
+
+pub loop-k-preserved : goal.loop-k-preserved
+loop-k-preserved c = let l = c in
+    (omega arith, raw_turn _ _ _ l.loop-k.k _ _ _ _ l.loop-k.invariant.1 c.comb-combin.ensures c.numbered_at-ck.ensures c.powi-p.ensures)
+
+pub returns : goal.returns
+returns c = let e : c.loop-k.k ≡ c.args.n + 1 = omega arith in
+    raw_end _ _ _ c.loop-k.k _ e c.loop-k.invariant.1

@@ -1,0 +1,9 @@
+use native.Mathlib.Omega.{arith}
+use Rattle.root.proofs.LiftTurns.{Lifting, start, left, turn, done}
+use Rattle.root.proofs.lifted.Given as goal
+
+abbrev pub invariant-loop-m : goal.invariant-loop-m
+invariant-loop-m l = Lifting l.digits l.m l.g
+
+abbrev pub decreases-loop-m : goal.decreases-loop-m
+decreases-loop-m l = l.g
