@@ -3,12 +3,8 @@ use mathlib.Core.Path.{refl}
 use lib.Ieee.{of_bits}
 use Rattle.float.specs.Power.{power_of}
 use Rattle.step.specs.Parts.{fifth_moment}
-use Rattle.step.proofs.fifth.Statement.{statement}
-use Rattle.step.proofs.fifth.Tie as tie
+use Rattle.step.proofs.fifth.Goals as goal
 
-returns : tie.Need-returns
+pub returns : goal.returns
 unfolding fifth_moment of_bits power_of
 returns c = refl
-
-pub fifth-spec : {M : Type 1} → statement M
-fifth-spec = tie.close (tie.spec returns)
