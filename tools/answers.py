@@ -70,7 +70,7 @@ def turn(crate, path, folder, text, info):
     steps = {}
     for place in info["places"]:
         old, new = place[2]
-        if old:
+        if old and not new.endswith("-1"):  # those are Rattle's own names
             steps.setdefault(norm_step(old), new)
     arms = {}
     for arm in info["arms"]:
@@ -86,6 +86,8 @@ def turn(crate, path, folder, text, info):
     by_old = {}
     for old, new in needs:
         by_old.setdefault(norm(old), new)
+    by_new = {new.replace("_", "-"): new for old, new in needs}
+    settled = {s.replace("_", "-") for s in info["settled"]}
     uses, invariants, answers, others = [], [], [], []
     header = []
     for block in blocks_of(text):
@@ -118,7 +120,9 @@ def turn(crate, path, folder, text, info):
         m = re.match(r"(?:pub )?(\S+) : tie\.Need-([^\s]+)", sig)
         if m:
             local, old = m.group(1), norm(m.group(2))
-            new = by_old.get(old)
+            new = by_old.get(old) or by_new.get(m.group(2).replace("_", "-"))
+            if new is None and (old in settled or m.group(2).replace("_", "-") in settled):
+                continue
             if new is None:
                 others.append(["-- settled or not found: " + old] + block)
                 continue
@@ -173,8 +177,10 @@ def paths(text, steps):
         text = re.sub(r"\.([A-Za-z][A-Za-z0-9_'-]*)\.((?:given|ensures)(?:\.\d+)*)", arm, text)
 
     def one(m):
+        # a step is named right after its variable; what follows are fields
+        first = not re.search(r"[\w'\])]\.$|\.$", text[: m.start()]) and re.search(r"(?<![\w.'-])[a-zα-ωA-Z][\w'-]*$", text[: m.start()])
         w = m.group(1)
-        return "." + (steps.get(norm_step(w)) or w.replace("-", "_"))
+        return "." + ((first and steps.get(norm_step(w))) or w.replace("-", "_"))
 
     text = re.sub(r"\.([A-Za-z][A-Za-z0-9_'-]*)", one, text).replace("\x01", "")
     # a test of `!b` says today what b is
