@@ -4,23 +4,16 @@ use lib.IntN.{pos}
 use mir.Syntax.{w64}
 use mir.ValLaws.{to_z-of_z}
 use Rattle.text.proofs.Signs.{under, under_is, under_diff, under_fits}
-use Rattle.text_write.proofs.depth.Statement.{statement}
-use Rattle.text_write.proofs.depth.Tie as tie
+use Rattle.text_write.proofs.depth.Goals as goal
 
-sub-result : tie.Need-overflow-sub-result
-sub-result c =
-    let i = c.args.i in
+pub overflow_sub-result : goal.overflow_sub-result
+overflow_sub-result c = let i = c.args.i in
     rw (under_diff i c.ranges.i c.requires) (record { sfits = under_fits i c.ranges.i })
 
-cast-result : tie.Need-overflow-cast-result
-cast-result c =
-    let i = c.args.i in
+pub overflow_cast-result : goal.overflow_cast-result
+overflow_cast-result c = let i = c.args.i in
     rw (under_diff i c.ranges.i c.requires, to_z-of_z w64 (pos (under i)) (record { sfits = under_fits i c.ranges.i })) (tt, record { fits = omega (arith, under_fits i c.ranges.i) })
 
-returns : tie.Need-returns
-returns c =
-    let i = c.args.i in
+pub returns : goal.returns
+returns c = let i = c.args.i in
     rw (under_diff i c.ranges.i c.requires, to_z-of_z w64 (pos (under i)) (record { sfits = under_fits i c.ranges.i })) (under_is i c.requires)
-
-pub depth-spec : {M : Type 1} → statement M
-depth-spec = tie.close (tie.spec sub-result cast-result returns)
