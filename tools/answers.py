@@ -72,6 +72,13 @@ def turn(crate, path, folder, text, info):
         old, new = place[2]
         if old:
             steps.setdefault(norm_step(old), new)
+    arms = {}
+    for arm in info["arms"]:
+        if arm:
+            for field, step, way in arm[2]:
+                if way:
+                    arms[(norm_step(step), ".".join(way))] = arm[0] + "." + field
+    steps["arms of matches"] = arms
     loops = {}
     for i, (pair, variables) in enumerate(info["loops"]):
         loops[pair[0]] = (pair[1], variables, info["changed"][i])
@@ -152,11 +159,26 @@ def paths(text, steps):
     text = re.sub(r"(\w)(\.before)+(?![\w.-])", r"\1", text)
     text = text.replace(".well-formed", ".well_formed").replace(".taken", ".true").replace(".left", ".false")
 
+    arms = steps.get("arms of matches", {})
+
+    def arm(m):
+        parts = m.group(2).split(".")
+        for n in range(len(parts), 0, -1):
+            new = arms.get((norm_step(m.group(1)), ".".join(parts[:n])))
+            if new:
+                return ".".join(["", "\x01" + new.replace(".", ".\x01")] + parts[n:])
+        return m.group(0)
+
+    if arms:
+        text = re.sub(r"\.([A-Za-z][A-Za-z0-9_'-]*)\.((?:given|ensures)(?:\.\d+)*)", arm, text)
+
     def one(m):
         w = m.group(1)
         return "." + (steps.get(norm_step(w)) or w.replace("-", "_"))
 
-    return re.sub(r"\.([A-Za-z][A-Za-z0-9_'-]*)", one, text)
+    text = re.sub(r"\.([A-Za-z][A-Za-z0-9_'-]*)", one, text).replace("\x01", "")
+    # a test of `!b` says today what b is
+    return re.sub(r"(?<![\w.'-])([\w.'-]+\.if-not-[\w'-]+\.(?:true|false))(?![\w'-])", r"(ap not \1)", text)
 
 
 def turn_loop(body, local, kind, new, variables, changed):
@@ -191,7 +213,10 @@ def turn_loop(body, local, kind, new, variables, changed):
 
 
 def uses_for(uses, blocks):
-    return uses
+    text = "\n".join("\n".join(b) for b in blocks)
+    have = " ".join(uses)
+    more = [w for w in ("ap", "not") if "(ap not " in text and not re.search(r"[{ ]" + w + r"[,}]", have)]
+    return uses + (["use Rattle.std.proofs.Common.{%s}" % ", ".join(more)] if more else [])
 
 
 main()
