@@ -23,6 +23,7 @@ pub enum Form {
 }
 
 // A span form.
+#[tactic(auto, unfolding(crate::specs::Forms::span_form))]
 pub fn read_span(s: &[u8], at: usize) -> Form
     ensures { span_form (drop at s.now) ≡ form_is s.now result }
 {
@@ -51,6 +52,7 @@ pub fn read_span(s: &[u8], at: usize) -> Form
 }
 
 // A line: a span form that a newline closes.
+#[tactic(auto, unfolding(crate::specs::Forms::line_form))]
 pub fn read_line(s: &[u8], at: usize) -> Form
     ensures { line_form (drop at s.now) ≡ form_is s.now result }
 {
