@@ -8,6 +8,7 @@ use Rattle.walk.specs.declared.M2N.{M2N}
 use Rattle.fit_runs.specs.Runs.{rows_at, run_rows, flat_fit, mp_fit, mp_rows}
 use Rattle.grid.specs.declared.FitResultRow.{FitResultRow}
 use Rattle.fit_runs.specs.declared.Flat.{Flat}
+use Rattle.fit_runs.proofs.Flats.{length_flat_64}
 use Rattle.fit_runs.proofs.Running.{few_rows, flat_rows}
 
 pub count_fits : (m : M2N) (weights : List Float) (places : ℕ) (r : Flat) → r ≡ flat_fit m weights places → (r.count ≤ places) × (r.count ≤ 64)
@@ -23,3 +24,7 @@ unfolding flat_fit mp_rows
 rows_are m weights rows r e =
     ap (λ (x : Flat). rows_at x.numbers x.count ++ drop x.count rows) e
     ∙ ap (λ (l : List FitResultRow). l ++ drop (length (run_rows m weights (length rows))) rows) (flat_rows m weights (length rows))
+
+pub numbers_long : (m : M2N) (weights : List Float) (places : ℕ) (r : Flat) → r ≡ flat_fit m weights places → length r.numbers ≡ 384
+unfolding flat_fit
+numbers_long m weights places r e = ap (λ (x : Flat). length x.numbers) e ∙ length_flat_64 (run_rows m weights places) (few_rows m weights places).1
