@@ -124,7 +124,7 @@ def turn(crate, path, folder, text, info):
             if new is None and (old in settled or m.group(2).replace("_", "-") in settled):
                 continue
             if new is None:
-                others.append(["-- settled or not found: " + old] + block)
+                print("dropped, no such goal today:", folder, local)
                 continue
             rest = body[1:]
             clause = "\n".join(l for l in rest if not l.startswith("unfolding"))

@@ -1,0 +1,26 @@
+-- `moment_requests::orders::raw_reply` meets its contract: the parts have as many numbers as were asked for, and behind what is written the list is as it was. Assumes nothing.
+use mathlib.Core.Path.{sym}
+use native.Mathlib.Omega.{arith}
+use lib.Seq.{length-take-le}
+use Rattle.protocol_lists.proofs.Listing.{drop_least, take_least}
+use Rattle.moment_requests.proofs.orders.raw_reply.Goals as goal
+
+pub slice_bounds-raw_moment-end : goal.slice_bounds-raw_moment-end
+slice_bounds-raw_moment-end c = sym (length-take-le _ _ (omega arith))
+
+pub slice_bounds-raw_moment-end-3 : goal.slice_bounds-raw_moment-end-3
+slice_bounds-raw_moment-end-3 c = sym (length-take-le _ _ (omega arith))
+
+pub returns-in-Unwritten : goal.returns-in-Unwritten
+returns-in-Unwritten c = let d = c in
+    let l = d in (
+      rw (← take_least _ _ _ l.least-k.ensures, ← take_least _ _ _ l.least-places.ensures, ← d.raw_moment-r.ensures.0, c.in-Unwritten.is),
+      rw (← take_least _ _ _ l.least-k.ensures, ← take_least _ _ _ l.least-places.ensures, ← drop_least _ _ _ l.least-places.ensures, ← d.raw_moment-r.ensures.1),
+    )
+
+pub returns-in-Written : goal.returns-in-Written
+returns-in-Written c = let d = c in
+    let l = d in (
+      rw (← take_least _ _ _ l.least-k.ensures, ← take_least _ _ _ l.least-places.ensures, ← d.raw_moment-r.ensures.0, c.in-Written.is),
+      rw (← take_least _ _ _ l.least-k.ensures, ← take_least _ _ _ l.least-places.ensures, ← drop_least _ _ _ l.least-places.ensures, ← d.raw_moment-r.ensures.1),
+    )
