@@ -1,0 +1,10 @@
+-- `number_requests::leaves::abs` meets its contract, by whether the fraction is the rest of the line. Assumes nothing.
+use Rattle.replies.proofs.Asking.{rest_no, rest_yes}
+use Rattle.std.proofs.Common.{ap, not}
+use Rattle.number_requests.proofs.leaves.abs.Goals as goal
+
+pub returns-then-not-read_rest : goal.returns-then-not-read_rest
+returns-then-not-read_rest c = rest_no 1 _ _ _ c.read_rest.ensures.0 (ap not c.if-not-read_rest.true)
+
+pub returns : goal.returns
+returns c = rw c.abs.ensures (rest_yes 1 _ _ _ _ c.read_rest.ensures (ap not c.if-not-read_rest.false))
