@@ -18,6 +18,7 @@ pub enum Sheet {
 }
 
 // What a sheet is. Its lines are counted after they are read, as document 01 has it.
+#[tactic(auto, using(crate::proofs::Going::sheet_long))]
 fn check(s: &[u8]) -> Sheet
     ensures { result ≡ answer_of (sheet s.now) }
 {
