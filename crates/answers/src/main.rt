@@ -6,31 +6,44 @@
 mod lines; // lines.rt: lines out of a stream of bytes
 
 use lines::State;
+use std::io;
+use std::io::Read;
 
 // Reads once and takes in what came. At the end of the input, what is left is no line.
-fn serve(line: &mut [u8], xs: &mut [f64], out: &mut [u8], s: State) -> State {
-    let mut chunk = io::large_buffer();
-    let got = libc::read(0, &mut chunk);
-    let n = io::count(got, &chunk);
+fn serve(
+    rt: &HostRuntime,
+    line: &mut [u8],
+    xs: &mut [f64],
+    out: &mut [u8],
+    s: State,
+) -> io::Result<State> {
+    let mut chunk = [0u8; 65536];
+    let n = rt.stdin().read(&mut chunk)?;
     if n == 0 {
-        return lines::end(out, s);
+        return lines::end(rt, out, s);
     }
-    lines::take_in(&chunk[..n], line, xs, out, s)
+    lines::take_in(rt, &chunk[..n], line, xs, out, s)
 }
 
 // A proved loop has to end, and nothing says that the input does. So the loop counts its turns
 // down, from a number that no run uses up.
-fn serve_all(line: &mut [u8], xs: &mut [f64], out: &mut [u8]) {
+fn serve_all(
+    rt: &HostRuntime,
+    line: &mut [u8],
+    xs: &mut [f64],
+    out: &mut [u8],
+) -> io::Result<()> {
     let mut s = lines::begin();
     let mut turns = u64::MAX;
     while turns > 0 {
-        s = serve(line, xs, out, s);
+        s = serve(rt, line, xs, out, s)?;
         if s.over {
             turns = 0;
         } else {
             turns -= 1;
         }
     }
+    Ok(())
 }
 
 // A line has 65,536 bytes at most, its newline counted.
@@ -47,9 +60,9 @@ fn out_room() -> [u8; 524288] {
     [0u8; 524288]
 }
 
-fn main() {
+fn main(rt: HostRuntime) -> io::Result<()> {
     let mut line = line_room();
     let mut xs = list_room();
     let mut out = out_room();
-    serve_all(&mut line, &mut xs, &mut out);
+    serve_all(&rt, &mut line, &mut xs, &mut out)
 }

@@ -5,4 +5,4 @@ use Rattle.count_sheet.specs.declared.Input.TheVariants.{Bytes, Failed}
 
 abbrev pub Within : ℕ → Input → Type 0
 Within room (Bytes n) = n ≤ room
-Within room Failed = Unit
+Within room (Failed e) = Unit

@@ -5,28 +5,27 @@
 ghost use Rattle.std.specs.Prelude.{length, ◌≡◌};
 ghost use Rattle.count_sheet.specs.Input.{Within};
 
-// How many bytes came, or that a read failed.
-#[derive(Clone, Copy)]
+use std::io;
+use std::io::Read;
+
+// How many bytes came, or why a read failed.
+#[derive(Drop)]
 enum Input {
     Bytes(usize),
-    Failed,
+    Failed(io::Error),
 }
 
-// Fills buf from standard input, up to its end or to that of the input.
-fn read_all(buf: &mut [u8]) -> Input
+// Fills buf from a reader, up to its end or to that of the input.
+fn read_all(from: &mut impl Read, buf: &mut [u8]) -> Input
     ensures { Within (length buf.old) result }
 {
     let mut at = 0;
     while at < buf.len() {
-        let got = libc::read(0, &mut buf[at..]);
-        if got < 0 {
-            return Input::Failed;
+        match from.read(&mut buf[at..]) {
+            Ok(0) => return Input::Bytes(at),
+            Ok(n) => at += n,
+            Err(e) => return Input::Failed(e),
         }
-        let n = io::count(got, &buf[at..]);
-        if n == 0 {
-            return Input::Bytes(at);
-        }
-        at += n;
     }
     Input::Bytes(at)
 }
@@ -38,19 +37,17 @@ fn out_room() -> [u8; 131072]
     [0u8; 131072]
 }
 
-fn answer(s: &[u8]) {
+fn answer(rt: &impl Print, s: &[u8]) -> io::Result<()> {
     let mut out = out_room();
     let n = sheet::count_sheet(s, &mut out);
-    if !io::write_all(1, &out[..n]) {
-        os::fail(b"count_sheet: standard output");
-    }
+    rt.write_all(&out[..n])
 }
 
 // One byte more than a sheet may have is kept, so that a longer one is seen to be longer.
-fn main() {
+fn main(rt: HostRuntime) -> io::Result<()> {
     let mut s = [0u8; 65537];
-    match read_all(&mut s) {
-        Input::Bytes(n) => answer(&s[..n]),
-        Input::Failed => os::fail(b"count_sheet: standard input"),
+    match read_all(&mut rt.stdin(), &mut s) {
+        Input::Bytes(n) => answer(&rt, &s[..n]),
+        Input::Failed(e) => Err(e),
     }
 }

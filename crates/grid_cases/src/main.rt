@@ -4,6 +4,7 @@
 
 use grid::{Best, Epsilon, FitResultRow, Outcome};
 use moments::{Five, Params};
+use std::io;
 use walk::M2N;
 
 fn on_m(variant: usize, epsilon: f64) -> M2N {
@@ -75,32 +76,53 @@ fn put_outcome(out: &mut [u8], o: Outcome) -> usize {
     }
 }
 
-fn tell(name: &[u8], o: Outcome) {
+fn tell(rt: &impl Print, name: &[u8], o: Outcome) -> io::Result<()> {
     let mut out = [0u8; 128];
     let n = put_outcome(&mut out, o);
     if out.len() < n {
-        return;
+        return Ok(());
     }
-    io::write_all(1, name);
-    io::write_all(1, &out[..n]);
-    io::write_all(1, b"\n");
+    rt.write_all(name)?;
+    rt.write_all(&out[..n])?;
+    rt.write_all(b"\n")
 }
 
 // With the first n of the weights.
-fn search(name: &[u8], variant: usize, epsilon: f64, weights: &[f64], n: usize) {
+fn search(
+    rt: &impl Print,
+    name: &[u8],
+    variant: usize,
+    epsilon: f64,
+    weights: &[f64],
+    n: usize,
+) -> io::Result<()> {
     if weights.len() < n {
-        return;
+        return Ok(());
     }
     let fitted = grid::single_fit_loop(on_m(variant, epsilon), Epsilon::Own, &weights[..n]);
     let outcome = fitted.outcome;
-    tell(name, outcome);
+    tell(rt, name, outcome)
 }
 
-fn main() {
+fn main(rt: HostRuntime) -> io::Result<()> {
     let w = [0.5f64; 131072];
     let fine = 1.0 / 131072.0;
-    search(b"2^-17, 131,071 weights, variant 1: ", 1, fine, &w, 131071);
-    search(b"2^-17, 131,071 weights, variant 2: ", 2, fine, &w, 131071);
-    search(b"2^-17, 131,070 weights: ", 1, fine, &w, 131070);
-    search(b"2^-18, 131,072 weights: ", 1, fine / 2.0, &w, 131072);
+    search(
+        &rt,
+        b"2^-17, 131,071 weights, variant 1: ",
+        1,
+        fine,
+        &w,
+        131071,
+    )?;
+    search(
+        &rt,
+        b"2^-17, 131,071 weights, variant 2: ",
+        2,
+        fine,
+        &w,
+        131071,
+    )?;
+    search(&rt, b"2^-17, 131,070 weights: ", 1, fine, &w, 131070)?;
+    search(&rt, b"2^-18, 131,072 weights: ", 1, fine / 2.0, &w, 131072)
 }

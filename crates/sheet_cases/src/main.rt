@@ -3,6 +3,10 @@
 
 ghost use Rattle.std.specs.Prelude.{length, ◌≡◌};
 
+use std::fs::File;
+use std::io;
+use std::io::Read;
+use std::rt::Files;
 use text::Next;
 
 fn room() -> [u8; 131072]
@@ -11,17 +15,29 @@ fn room() -> [u8; 131072]
     [0u8; 131072]
 }
 
-// Reads a file into the front of buf, and answers how much of it there is: nothing of a file that
-// is not there.
-fn read_file(path: &[u8], buf: &mut [u8]) -> usize {
-    let fd = os::open_read(path);
-    if fd < 0 {
-        os::fail(path);
-        return 0;
+// Reads until buf is full or the input ends, and answers how much came.
+fn read_full(from: &mut impl Read, buf: &mut [u8]) -> io::Result<usize> {
+    let mut at = 0;
+    while at < buf.len() {
+        let n = from.read(&mut buf[at..])?;
+        if n == 0 {
+            return Ok(at);
+        }
+        at += n;
     }
-    let n = io::read_full(fd, buf);
-    libc::close(fd);
-    n
+    Ok(at)
+}
+
+// Reads a file into the front of buf, and answers how much of it there is: nothing of a file that
+// cannot be opened.
+fn read_file(rt: &(impl Files + Eprint), path: &str, buf: &mut [u8]) -> io::Result<usize> {
+    match File::open(rt, path) {
+        Ok(mut file) => read_full(&mut file, buf),
+        Err(e) => {
+            eprintln!(rt; "{path}: {e}")?;
+            Ok(0)
+        }
+    }
 }
 
 // Whether two texts are the same.
@@ -44,64 +60,65 @@ fn is_answered(s: &[u8], wanted: &[u8]) -> bool {
     same(&out[..n], wanted)
 }
 
-fn tell(name: &[u8], is_right: bool) {
+fn tell(rt: &impl Print, name: &str, is_right: bool) -> io::Result<()> {
     if is_right {
-        io::write_all(1, b"as it must be: ");
+        println!(rt; "as it must be: {name}")
     } else {
-        io::write_all(1, b"DIFFERS: ");
+        println!(rt; "DIFFERS: {name}")
     }
-    io::write_all(1, name);
-    io::write_all(1, b"\n");
 }
 
-fn case(sheet: &[u8], answer: &[u8]) {
+fn case(rt: &(impl Files + Print + Eprint), sheet: &str, answer: &str) -> io::Result<()> {
     let mut s = room();
     let mut a = room();
-    let n = read_file(sheet, &mut s);
-    let k = read_file(answer, &mut a);
+    let n = read_file(rt, sheet, &mut s)?;
+    let k = read_file(rt, answer, &mut a)?;
     if s.len() < n {
-        return;
+        return Ok(());
     }
     if a.len() < k {
-        return;
+        return Ok(());
     }
-    tell(sheet, is_answered(&s[..n], &a[..k]));
+    tell(rt, sheet, is_answered(&s[..n], &a[..k]))
 }
 
 // Sheets that are counted.
-fn counted() {
-    case(b"orders.sheet", b"orders.rows");
-    case(b"empty.sheet", b"empty.rows");
-    case(b"sides.sheet", b"sides.rows");
-    case(b"instants.sheet", b"instants.rows");
-    case(b"lines_1024.sheet", b"lines_1024.rows");
-    case(b"bytes_65536.sheet", b"bytes_65536.rows");
+fn counted(rt: &(impl Files + Print + Eprint)) -> io::Result<()> {
+    case(rt, "orders.sheet", "orders.rows")?;
+    case(rt, "empty.sheet", "empty.rows")?;
+    case(rt, "sides.sheet", "sides.rows")?;
+    case(rt, "instants.sheet", "instants.rows")?;
+    case(rt, "lines_1024.sheet", "lines_1024.rows")?;
+    case(rt, "bytes_65536.sheet", "bytes_65536.rows")?;
+    Ok(())
 }
 
 // Sheets of too many lines or bytes.
-fn too_large() {
-    case(b"lines_1025.sheet", b"refused_11");
-    case(b"lines_1025_and_a_fault.sheet", b"refused_15_1026");
-    case(b"bytes_65537.sheet", b"refused_11");
-    case(b"bytes_65537_and_a_fault.sheet", b"refused_11");
+fn too_large(rt: &(impl Files + Print + Eprint)) -> io::Result<()> {
+    case(rt, "lines_1025.sheet", "refused_11")?;
+    case(rt, "lines_1025_and_a_fault.sheet", "refused_15_1026")?;
+    case(rt, "bytes_65537.sheet", "refused_11")?;
+    case(rt, "bytes_65537_and_a_fault.sheet", "refused_11")?;
+    Ok(())
 }
 
 // Sheets with a line that is no form.
-fn faulty() {
-    case(b"no_newline.sheet", b"refused_15_2");
-    case(b"crlf.sheet", b"refused_15_1");
-    case(b"blank_line.sheet", b"refused_15_2");
-    case(b"leading_zero.sheet", b"refused_15_2");
-    case(b"minus_zero.sheet", b"refused_15_2");
-    case(b"instant_too_high.sheet", b"refused_15_2");
-    case(b"instant_too_low.sheet", b"refused_15_2");
-    case(b"upper_case.sheet", b"refused_15_2");
-    case(b"two_blanks.sheet", b"refused_15_2");
-    case(b"rule_line.sheet", b"refused_15_1");
+fn faulty(rt: &(impl Files + Print + Eprint)) -> io::Result<()> {
+    case(rt, "no_newline.sheet", "refused_15_2")?;
+    case(rt, "crlf.sheet", "refused_15_1")?;
+    case(rt, "blank_line.sheet", "refused_15_2")?;
+    case(rt, "leading_zero.sheet", "refused_15_2")?;
+    case(rt, "minus_zero.sheet", "refused_15_2")?;
+    case(rt, "instant_too_high.sheet", "refused_15_2")?;
+    case(rt, "instant_too_low.sheet", "refused_15_2")?;
+    case(rt, "upper_case.sheet", "refused_15_2")?;
+    case(rt, "two_blanks.sheet", "refused_15_2")?;
+    case(rt, "rule_line.sheet", "refused_15_1")?;
+    Ok(())
 }
 
-fn main() {
-    counted();
-    too_large();
-    faulty();
+fn main(rt: HostRuntime) -> io::Result<()> {
+    counted(&rt)?;
+    too_large(&rt)?;
+    faulty(&rt)
 }
