@@ -1,10 +1,9 @@
--- What the counts' answer says of the budget's, where they have room for 16,384 spans: they are refused as the sizes are, but for the room of these. Assumes nothing.
-use Prim.Native.Nat.{ℕ, zero, suc, ◌≤◌, ◌<◌, min}
+-- What the counts' answer says of the budget's where the spans were counted, with room for 16,384 of them. Assumes nothing.
+use Prim.Native.Nat.{ℕ, zero, suc, ◌≤◌, min}
 use mathlib.Core.Path.{◌≡◌, refl, sym, ap, ◌∙◌}
-use mathlib.Core.Bool.{Bool, true, false, not, ◌&&◌, cond}
+use mathlib.Core.Bool.{Bool, true, false}
 use mathlib.Core.List.{List, ◌++◌}
 use native.Mathlib.Omega.{arith}
-use lib.Dec.{eqb, ltb}
 use lib.ListN.{length, take, drop, length-map}
 use lib.Seq.{length-take-le, take_at}
 use lib.IntN.{ℤ}
@@ -12,25 +11,11 @@ use lib.Ieee.{Float}
 use Rattle.bet_sizing.specs.Counts.{concurrent, concurrent_counts, whole}
 use Rattle.bet_sizing.specs.Refusals.{ConcurrentSides, counts_refusal, list_after, outcome, spans_refusal}
 use Rattle.bet_sizing.specs.declared.Outcome.{Outcome}
-use Rattle.bet_sizing.specs.declared.Outcome.TheVariants.{Unwritten, Written}
-use Rattle.bet_sizing.proofs.Refusing.{answered_none, answered_refusal, fitting, list_kept, list_written, no_room, not_refused}
+use Rattle.bet_sizing.specs.declared.Outcome.TheVariants.{Written}
+use Rattle.bet_sizing.proofs.Refusing.{answered_none, fitting, list_written, not_refused}
 use Rattle.budget.specs.Budget.{BetSizeBudget, budget_sizes, largest}
 use Rattle.budget.specs.Sizes.{sizes_of}
 use Rattle.budget.proofs.Sizing.{sizes_map}
-
--- ---- the numbers
-by_tests : (a b c : Bool) (k : ℕ) → (◌≡◌ {A = ℕ} (cond a 10 (cond b 11 (cond b 8 0))) 0 → ⊥) → k ≡ cond a 10 (cond b 11 (cond b 8 0)) → k ≡ cond a 10 (cond b 11 (cond c 8 0))
-by_tests true b c k h e = e
-by_tests false true c k h e = e
-by_tests false false c k h e = absurd (h refl)
-
-refused_alike : (n e d room k : ℕ) → k ≡ spans_refusal n e d 16384 → (k ≡ 0 → ⊥) → k ≡ spans_refusal n e d room
-refused_alike n e d room k p h = by_tests (not (eqb e n && eqb d n)) (ltb 16384 n) (ltb room n) k (λ z. h (p ∙ z)) p
-
--- the number of an answer, and how many were written
-of_refusal : (k n m : ℕ) → outcome k n ≡ Unwritten m → (m ≡ k) × (k ≡ 0 → ⊥)
-of_refusal zero n m e = let z : ◌≡◌ {A = ℕ} 0 1 = cc in absurd (omega arith)
-of_refusal (suc k) n m e = let z : m ≡ suc k = cc in (z, λ p. omega arith)
 
 of_none : (k n m : ℕ) → outcome k n ≡ Written m → (0 ≡ k) × (n ≡ m)
 of_none zero n m e = (refl, cc)
@@ -44,13 +29,6 @@ module _ {ss es : List ℤ} {ds long long' short short' : List Float} {counted :
   number : counts_refusal ss es ds long short ≡ spans_refusal (length ss) (length es) (length ds) 16384
   number = let e : min (length long) (length short) ≡ 16384 = omega arith in ap (spans_refusal (length ss) (length es) (length ds)) e
 
-  pub refused : (size : List Float) (k : ℕ) → counted ≡ Unwritten k → BetSizeBudget ss es ds size size counted
-  refused size k e =
-      let r = of_refusal _ (length ss) k (sym h.answered ∙ e) in
-      let q : k ≡ 0 → ⊥ = λ z. r.1 (sym r.0 ∙ z) in
-      let p = refused_alike (length ss) (length es) (length ds) (length size) k (r.0 ∙ number) q in
-      record { answered = e ∙ answered_refusal k _ (length ss) p q; sizes = list_kept k _ _ _ size p q }
-
   module _ {n : ℕ} (e : counted ≡ Written n) where
     none : (0 ≡ counts_refusal ss es ds long short) × (length ss ≡ n)
     none = of_none _ (length ss) n (sym h.answered ∙ e)
@@ -60,12 +38,6 @@ module _ {ss es : List ℤ} {ds long long' short short' : List Float} {counted :
 
     pub few : n ≤ 16384
     few = let f = fitting (length ss) (length es) (length ds) 16384 (none.0 ∙ number) in omega (arith, f.few, none.1)
-
-    pub too_short : (size : List Float) → length size < n → BetSizeBudget ss es ds size size (Unwritten 8)
-    too_short size l =
-        let f = fitting (length ss) (length es) (length ds) 16384 (none.0 ∙ number) in
-        let p = no_room (length ss) (length es) (length ds) (length size) (sym f.ends) (sym f.sides) f.few (omega (arith, none.1)) in
-        record { answered = answered_refusal 8 _ (length ss) p (λ z. omega arith); sizes = list_kept 8 _ _ _ size p (λ z. omega arith) }
 
     counts : (b : Bool) (list old : List Float) → list ≡ list_after (counts_refusal ss es ds long short) (length ss) (concurrent_counts b ss es ds) old → take n list ≡ concurrent_counts b ss es ds
     counts b list old g =

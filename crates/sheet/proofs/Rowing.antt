@@ -1,27 +1,24 @@
 -- Rows put one after another: a count read back from its float is the count, a row is short, and each row put is the next of the text. Assumes nothing.
-use Prim.Native.Nat.{ℕ, zero, suc, ◌+◌, ◌*◌, ◌≤◌, ◌<◌, min}
+use Prim.Native.Nat.{ℕ, ◌+◌, ◌*◌, ◌≤◌, ◌<◌}
 use mathlib.Core.Path.{◌≡◌, sym, ◌∙◌, ap}
 use mathlib.Core.Bool.{Bool, true, false, ◌&&◌}
-use mathlib.Core.List.{List, [], ◌∷◌, ◌++◌, append_assoc, append-nil, map}
+use mathlib.Core.List.{List, [], ◌∷◌, ◌++◌, append_assoc, append-nil}
 use native.Mathlib.Omega.{arith}
 use native.Mathlib.Numerals.{add-one}
-use borrow.Author.Tests.{le-leb, le-ltb, eq-eqb}
+use borrow.Author.Tests.{le-leb}
 use lib.IntN.{ℤ, pos}
 use lib.Ieee.{Float, nan, binary64, to_bits, to_unsigned, in_float}
 use lib.Ieee.Back.{unsigned_back}
-use lib.ListN.{length, take, get_or, length-map, get_or-append}
+use lib.ListN.{length, take, get_or}
 use lib.Seq.{take-suc}
 use Rattle.bet_sizing.specs.Counts.{concurrent, live, on_side, whole}
-use Rattle.bet_sizing.specs.Refusals.{ConcurrentSides, spans_refusal, list_after}
-use Rattle.bet_sizing.specs.declared.Outcome.{Outcome}
-use Rattle.bet_sizing.proofs.Filling.{map_at}
 use Rattle.bet_sizing.proofs.Ranks.{indicator_le}
-use Rattle.budget.specs.Budget.{BetSizeBudget, budget_size}
+use Rattle.budget.specs.Budget.{budget_size}
 use Rattle.text.specs.Print.{Placed}
 use Rattle.text.proofs.Placing.{Front, front_none, front_then}
 use Rattle.sheet_rows.proofs.Rows.{row_short}
 use Rattle.sheet_rows.specs.Rows.{row_line}
-use Rattle.sheet.specs.Meaning.{Countable, Rowable}
+use Rattle.sheet.specs.Meaning.{Rowable}
 use Rattle.sheet.specs.Rows.{row_at, text_of}
 
 -- ---- a count, read back from its float
@@ -68,33 +65,3 @@ module _ (n : ℕ) (ss es : List ℤ) (ds long short size : List Float) (o : Lis
       let e : take (i + 1) ss ≡ take i ss ++ (t ∷ []) = rw (add-one i) (take-suc ss i (pos 0) below) in
       let k : 128 * (i + 1) ≡ 128 * i + 128 = omega arith in
       record { front = rw (e, text_snoc (row_at ss es ds) (take i ss) t, k) more; within = omega arith }
-
--- ---- what the counts and the sizes leave is what the rows ask
-none : (n e d room : ℕ) → n ≡ e → n ≡ d → n ≤ 1024 → n ≤ room → spans_refusal n e d room ≡ 0
-none n e d room p q few h = rw (eq-eqb e n (sym p), eq-eqb d n (sym q), le-ltb 16384 n (omega arith), le-ltb room n h)
-
-written : (f : ℤ → Float) (ss : List ℤ) (new old : List Float) (k : ℕ) → k ≡ 0 → new ≡ list_after k (length ss) (map f ss) old
-    → (i : ℕ) → i < length ss → get_or new i nan ≡ f (get_or ss i (pos 0))
-written f ss new old zero z e i h =
-    ap (λ (x : List Float). get_or x i nan) e ∙ get_or-append (map f ss) _ nan i (omega (arith, length-map ss f)) ∙ map_at f ss i h
-written f ss new old (suc k) z e i h = absurd (omega arith)
-
-module _ {ss es : List ℤ} {ds long long' short short' size size' : List Float} {out : List ℕ} {r r' : Outcome} where
-  pub rowable : Countable ss es ds out → ConcurrentSides ss es ds long long' short short' r → BetSizeBudget ss es ds size size' r'
-      → 1024 ≡ length long → 1024 ≡ length short → 1024 ≡ length size
-      → 1024 ≡ length long' → 1024 ≡ length short' → 1024 ≡ length size'
-      → Rowable ss es ds long' short' size' out
-  rowable h counts sizes l s z l' s' z' =
-      let few = h.few in
-      let p = none (length ss) (length es) (length ds) (min (length long) (length short)) h.ends h.sides few (omega arith) in
-      let q = none (length ss) (length es) (length ds) (length size) h.ends h.sides few (omega arith) in
-      record {
-        few = few;
-        room = h.room;
-        in_long = omega arith;
-        in_short = omega arith;
-        in_size = omega arith;
-        longs = written (λ t. whole (concurrent true t ss es ds)) ss long' long _ p counts.longs;
-        shorts = written (λ t. whole (concurrent false t ss es ds)) ss short' short _ p counts.shorts;
-        sizes = written (budget_size ss es ds) ss size' size _ q sizes.sizes;
-      }

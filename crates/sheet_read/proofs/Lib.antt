@@ -1,5 +1,4 @@
 -- Laws that belong to no one function, on plain values.
-pub mod Answering
 pub mod Filling
 pub mod Going
 pub mod Spelling

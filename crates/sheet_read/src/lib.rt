@@ -18,6 +18,7 @@ pub enum Sheet {
 }
 
 // What a sheet is. Its lines are counted after they are read, as document 01 has it.
+#[tactic(auto, using(crate::proofs::Going::sheet_long))]
 fn check(s: &[u8]) -> Sheet
     ensures { result ≡ answer_of (sheet s.now) }
 {
@@ -72,6 +73,7 @@ fn smaller(a: usize, b: usize) -> usize
 }
 
 // Reads the spans of a sheet into three lists.
+#[tactic(auto, using(crate::proofs::Spelling::one_spelling))]
 pub fn read_sheet(s: &[u8], starts: &mut [i64], ends: &mut [i64], sides: &mut [f64]) -> Sheet
     ensures sheet_read { SheetRead s.now starts.old starts.new ends.old ends.new sides.old sides.new result }
     ensures one_spelling { OneSpelling s.now }

@@ -121,6 +121,7 @@ fn negative(n: u64) -> i64
 }
 
 // Sixteen hexadecimal digits, in lower case.
+#[tactic(auto, using(text::proofs::Steps::hexes_other))]
 pub fn read_hex(s: &[u8], at: usize) -> Number
     ensures { hexes 16 0 (drop at s.now) ≡ number_is s.now result }
 {

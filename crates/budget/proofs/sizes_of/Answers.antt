@@ -5,8 +5,7 @@ use Rattle.budget.proofs.Sizing.{sizes_length, size_at, sizes_all}
 use Rattle.budget.proofs.sizes_of.Goals as goal
 
 pub loop-i-init : goal.loop-i-init
-loop-i-init c = let s = c in
-    fill_none _ _ (omega (arith, sizes_length s.args.long.now s.args.short.now s.requires.0, s.requires.1))
+loop-i-init c = fill_none _ _ (omega (arith, sizes_length c.args.long.now c.args.short.now c.requires.0, c.requires.1))
 
 pub bounds-short-i : goal.bounds-short-i
 bounds-short-i c = omega (arith, c.requires.0)
@@ -15,15 +14,13 @@ pub bounds-size-i : goal.bounds-size-i
 bounds-size-i c = omega (arith, c.loop-i.invariant.size, c.requires.1)
 
 pub loop-i-preserved : goal.loop-i-preserved
-loop-i-preserved c = let l = c in
-    let s = l in
+loop-i-preserved c =
     let h = c.loop-i-test.true in
-    fill_more l.loop-i.invariant _ (omega (arith, h, sizes_length s.args.long.now s.args.short.now s.requires.0))
-    (size_at s.args.long.now s.args.short.now l.loop-i.i s.requires.0 h l.largest-max_long.ensures l.largest-max_short.ensures c.share_of.ensures c.share_of-in-loop-i.ensures)
+    fill_more c.loop-i.invariant _ (omega (arith, h, sizes_length c.args.long.now c.args.short.now c.requires.0))
+    (size_at c.args.long.now c.args.short.now c.loop-i.i c.requires.0 h c.largest-max_long.ensures c.largest-max_short.ensures c.share_of.ensures c.share_of-in-loop-i.ensures)
 
 pub shape_of-size : goal.shape_of-size
 shape_of-size c = c.loop-i.invariant.size
 
 pub returns : goal.returns
-returns c = let s = c in
-    sizes_all s.args.long.now s.args.short.now s.requires.0 c.loop-i.invariant c.loop-i-test.false
+returns c = sizes_all c.args.long.now c.args.short.now c.requires.0 c.loop-i.invariant c.loop-i-test.false

@@ -10,39 +10,38 @@ use Rattle.limit_price.proofs.Lots.{read_lot, next_fits, next_lot, sum_more, sum
 use Rattle.limit_price.proofs.sum_of_prices.Goals as goal
 
 pub walk-walked-requires : goal.walk-walked-requires
-walk-walked-requires c = let s = c in
-    walkable_of s.args.f _ s.args.sgn s.ranges.sgn s.args.lots c.blocks_of-whole.result c.blocks_of-whole.ensures s.requires.1 s.requires.2
+walk-walked-requires c = walkable_of c.args.f _ c.args.sgn c.ranges.sgn c.args.lots c.blocks_of-whole.result c.blocks_of-whole.ensures c.requires.1 c.requires.2
 
 pub overflow_mul-i : goal.overflow_mul-i
 overflow_mul-i c = omega (arith, c.blocks_of-whole.ensures.few, c.requires.2)
 
 pub loop-i-init : goal.loop-i-init
-loop-i-init c = let s = c in
+loop-i-init c =
     let n = c.blocks_of-whole in
     let w = c.walk-walked in
     let e = w.ensures.1 in
-    let fit = subst (SFits w64) (sym (e ∙ read_lot s.args.current s.args.sgn s.ranges.current s.ranges.sgn (n.result * 32))) (s.requires.0 (n.result * 32) n.ensures.few) in
+    let fit = subst (SFits w64) (sym (e ∙ read_lot c.args.current c.args.sgn c.ranges.current c.ranges.sgn (n.result * 32))) (c.requires.0 (n.result * 32) n.ensures.few) in
     (n.ensures.few, to_z-of_z w64 w.result.lot fit ∙ e, w.ensures.0)
 
 pub overflow_add-lot : goal.overflow_add-lot
-overflow_add-lot c = let s = c in
+overflow_add-lot c =
     let l = c.loop-i in
-    next_fits s.args.current s.args.sgn s.ranges.current s.ranges.sgn s.args.lots l.i s.requires.0 c.loop-i-test.true _ l.invariant.1
+    next_fits c.args.current c.args.sgn c.ranges.current c.ranges.sgn c.args.lots l.i c.requires.0 c.loop-i-test.true _ l.invariant.1
 
 pub overflow_add-i : goal.overflow_add-i
 overflow_add-i c = omega (arith, c.requires.2)
 
 pub loop-i-preserved : goal.loop-i-preserved
-loop-i-preserved c = let s = c in
+loop-i-preserved c =
     let l = c.loop-i in
-    let e = next_lot s.args.current s.args.sgn s.ranges.current s.ranges.sgn s.args.lots l.i s.requires.0 c.loop-i-test.true _ l.invariant.1 in (
+    let e = next_lot c.args.current c.args.sgn c.ranges.current c.ranges.sgn c.args.lots l.i c.requires.0 c.loop-i-test.true _ l.invariant.1 in (
       omega arith,
       e,
-      sum_more s.args.f s.args.w s.args.max_pos (to_z w64 (of_z w64 s.args.current)) (to_z w64 (of_z w64 s.args.sgn)) l.i _ l.sum c.i64_as_f64.result c.inv_price_sigmoid-sum.result e c.i64_as_f64.ensures c.inv_price_sigmoid-sum.ensures l.invariant.2,
+      sum_more c.args.f c.args.w c.args.max_pos (to_z w64 (of_z w64 c.args.current)) (to_z w64 (of_z w64 c.args.sgn)) l.i _ l.sum c.i64_as_f64.result c.inv_price_sigmoid-sum.result e c.i64_as_f64.ensures c.inv_price_sigmoid-sum.ensures l.invariant.2,
     )
 
 pub returns : goal.returns
-returns c = let s = c in
+returns c =
     let l = c.loop-i in
-    let e : l.i ≡ s.args.lots = omega arith in
-    sum_done s.args.current s.args.sgn s.ranges.current s.ranges.sgn s.args.f s.args.w s.args.max_pos s.args.lots l.i l.sum e l.invariant.2
+    let e : l.i ≡ c.args.lots = omega arith in
+    sum_done c.args.current c.args.sgn c.ranges.current c.ranges.sgn c.args.f c.args.w c.args.max_pos c.args.lots l.i l.sum e l.invariant.2

@@ -2,11 +2,8 @@
 use Prim.Native.Nat.{◌+◌}
 use native.Mathlib.Omega.{arith}
 use Rattle.sheet_forms.proofs.Further.{further}
-use Rattle.sheet_read.proofs.Going.{start, more, fault, whole, sheet_long, sheet_wrong, sheet_many, sheet_good}
+use Rattle.sheet_read.proofs.Going.{start, more, fault, whole, sheet_wrong, sheet_many, sheet_good}
 use Rattle.sheet_read.proofs.check.Goals as goal
-
-pub returns-then-s-gt65536 : goal.returns-then-s-gt65536
-returns-then-s-gt65536 c = rw (sheet_long c.args.s.now (omega arith))
 
 pub loop-at-init : goal.loop-at-init
 loop-at-init c = start _

@@ -3,7 +3,7 @@
 use mathlib.Core.Path.{refl, ◌∙◌}
 use native.Mathlib.Omega.{arith}
 use Rattle.text.proofs.Digits.{hex_room, hex_fits}
-use Rattle.text.proofs.Steps.{hexes_end, hexes_short, hexes_other, hexes_more}
+use Rattle.text.proofs.Steps.{hexes_end, hexes_short, hexes_more}
 use Rattle.text_read.proofs.read_hex.Goals as goal
 
 pub loop-left-init : goal.loop-left-init
@@ -13,11 +13,6 @@ pub returns-then-s-i : goal.returns-then-s-i
 returns-then-s-i c = let l = c.loop-left in
     let a = c.args in
     l.invariant.0 ∙ hexes_short a.s.now l.i l.value l.left (omega arith) (omega arith)
-
-pub returns-then-d-ge16 : goal.returns-then-d-ge16
-returns-then-d-ge16 c = let l = c.loop-left in
-    let a = c.args in
-    l.invariant.0 ∙ hexes_other a.s.now l.i l.value l.left (omega arith) (omega arith) (omega arith)
 
 pub overflow_mul-value : goal.overflow_mul-value
 overflow_mul-value c = let l = c.loop-left in

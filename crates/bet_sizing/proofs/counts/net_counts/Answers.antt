@@ -22,13 +22,13 @@ abbrev at : List ℕ → List ℕ → ℤ → Float
 at s e t = whole (net s e t)
 
 pub loop-i-init : goal.loop-i-init
-loop-i-init c = let s = c in map_none (at s.args.s.now s.args.e.now) s.args.starts.now s.args.out.now s.requires.room
+loop-i-init c = map_none (at c.args.s.now c.args.e.now) c.args.starts.now c.args.out.now c.requires.room
 
 pub rank_of-requires : goal.rank_of-requires
-rank_of-requires c = let s = c in (s.requires.starts, s.requires.few_starts)
+rank_of-requires c = (c.requires.starts, c.requires.few_starts)
 
 pub rank_of-requires-in-loop-i : goal.rank_of-requires-in-loop-i
-rank_of-requires-in-loop-i c = let s = c in (s.requires.ends, s.requires.few_ends)
+rank_of-requires-in-loop-i c = (c.requires.ends, c.requires.few_ends)
 
 pub overflow_cast-c : goal.overflow_cast-c
 overflow_cast-c c = omega (arith, c.saturating_sub-c.ensures, c.rank_of.ensures, rank_le c.key-k.result c.args.s.now, c.requires.few_starts)
@@ -38,18 +38,16 @@ bounds-out-i c = omega (arith, c.loop-i.invariant.size, c.requires.room)
 
 pub loop-i-preserved : goal.loop-i-preserved
 unfolding whole
-loop-i-preserved c = let l = c in
-    let s = l in
+loop-i-preserved c =
     let h = c.loop-i-test.true in
-    let x : ℤ = get_or s.args.starts.now l.loop-i.i (pos 0) in
+    let x : ℤ = get_or c.args.starts.now c.loop-i.i (pos 0) in
     let k : c.key-k.result ≡ key_of x = c.key-k.ensures ∙ ap key_of (to_z-of_z w64 x (record { sfits = search rules })) in
-    let e : c.saturating_sub-c.result ≡ net s.args.s.now s.args.e.now x =
-    omega (arith, c.saturating_sub-c.ensures, c.rank_of.ensures, c.rank_of-in-loop-i.ensures, ap (λ (z : ℕ). rank z s.args.s.now) k, ap (λ (z : ℕ). rank z s.args.e.now) k) in
-    map_more (at s.args.s.now s.args.e.now) s.args.starts.now l.loop-i.invariant _ h (ap whole e)
+    let e : c.saturating_sub-c.result ≡ net c.args.s.now c.args.e.now x =
+    omega (arith, c.saturating_sub-c.ensures, c.rank_of.ensures, c.rank_of-in-loop-i.ensures, ap (λ (z : ℕ). rank z c.args.s.now) k, ap (λ (z : ℕ). rank z c.args.e.now) k) in
+    map_more (at c.args.s.now c.args.e.now) c.args.starts.now c.loop-i.invariant _ h (ap whole e)
 
 pub shape_of-out : goal.shape_of-out
 shape_of-out c = c.loop-i.invariant.size
 
 pub returns : goal.returns
-returns c = let s = c in
-    record { list = map_all (at s.args.s.now s.args.e.now) s.args.starts.now c.loop-i.invariant c.loop-i-test.false }
+returns c = record { list = map_all (at c.args.s.now c.args.e.now) c.args.starts.now c.loop-i.invariant c.loop-i-test.false }

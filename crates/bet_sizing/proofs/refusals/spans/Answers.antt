@@ -10,13 +10,10 @@ pub returns-then-sides-starts : goal.returns-then-sides-starts
 returns-then-sides-starts c = bad_sides _ _ _ _ c.if-ends-starts.false c.if-sides-starts.true
 
 pub returns-then-starts-gt16384 : goal.returns-then-starts-gt16384
-returns-then-starts-gt16384 c = let s = c in
-    too_many s.args.starts s.args.ends s.args.sides s.args.room (omega arith) (omega arith) (omega arith)
+returns-then-starts-gt16384 c = too_many c.args.starts c.args.ends c.args.sides c.args.room (omega arith) (omega arith) (omega arith)
 
 pub returns-then-room-starts : goal.returns-then-room-starts
-returns-then-room-starts c = let s = c in
-    no_room s.args.starts s.args.ends s.args.sides s.args.room (omega arith) (omega arith) (omega arith) (omega arith)
+returns-then-room-starts c = no_room c.args.starts c.args.ends c.args.sides c.args.room (omega arith) (omega arith) (omega arith) (omega arith)
 
 pub returns : goal.returns
-returns c = let s = c in
-    not_refused s.args.starts s.args.ends s.args.sides s.args.room (omega arith) (omega arith) (omega arith) (omega arith)
+returns c = not_refused c.args.starts c.args.ends c.args.sides c.args.room (omega arith) (omega arith) (omega arith) (omega arith)

@@ -10,18 +10,18 @@ unfolding added_to
 loop-k-init c = (omega arith, refl)
 
 pub sure_price-sum-requires : goal.sure_price-sum-requires
-sure_price-sum-requires c = let s = c in
+sure_price-sum-requires c =
     let l = c.loop-k in
     let h = c.loop-k-test.true in
-    (s.requires.0.at l.k h, s.requires.1.at l.k h)
+    (c.requires.0.at l.k h, c.requires.1.at l.k h)
 
 pub loop-k-preserved : goal.loop-k-preserved
-loop-k-preserved c = let s = c in
+loop-k-preserved c =
     let l = c.loop-k in
-    (omega arith, added_more s.args.start s.args.f s.args.w _ l.k l.sum c.sure_price-sum.result l.invariant.1 c.sure_price-sum.ensures)
+    (omega arith, added_more c.args.start c.args.f c.args.w _ l.k l.sum c.sure_price-sum.result l.invariant.1 c.sure_price-sum.ensures)
 
 pub returns : goal.returns
-returns c = let s = c in
+returns c =
     let l = c.loop-k in
     let e : l.k ≡ 32 = omega arith in
-    l.invariant.1 ∙ ap (added_to s.args.start s.args.f s.args.w _) e
+    l.invariant.1 ∙ ap (added_to c.args.start c.args.f c.args.w _) e

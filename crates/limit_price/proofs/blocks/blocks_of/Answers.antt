@@ -7,13 +7,12 @@ use Rattle.limit_price.proofs.blocks.blocks_of.Goals as goal
 
 pub returns-then-current-geminus9000000000000000 : goal.returns-then-current-geminus9000000000000000
 unfolding of_bits
-returns-then-current-geminus9000000000000000 c = let s = c in
-    record {
-      few = omega arith;
-      above = λ h. c.if-f.true;
-      ends = λ h. sym c.is_finite.ensures ∙ c.if-is_finite.true;
-      near = λ h. near_current s.args.current s.ranges.current c.if-current-le9000000000000000.true c.if-current-geminus9000000000000000.true;
-    }
+returns-then-current-geminus9000000000000000 c = record {
+  few = omega arith;
+  above = λ h. c.if-f.true;
+  ends = λ h. sym c.is_finite.ensures ∙ c.if-is_finite.true;
+  near = λ h. near_current c.args.current c.ranges.current c.if-current-le9000000000000000.true c.if-current-geminus9000000000000000.true;
+}
 
 pub returns-else-current-geminus9000000000000000 : goal.returns-else-current-geminus9000000000000000
 returns-else-current-geminus9000000000000000 c = no_blocks _ _ _

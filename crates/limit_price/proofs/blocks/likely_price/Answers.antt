@@ -7,8 +7,7 @@ use Rattle.limit_price.proofs.blocks.likely_price.Goals as goal
 
 pub returns-then-price-f : goal.returns-then-price-f
 unfolding of_bits
-returns-then-price-f c = let s = c in
-    told s.args.f s.args.m s.args.quotient s.args.guess s.requires.0 s.requires.1 (subst T (sym s.well_formed.1.1.1.0.1) tt) (subst T (sym s.well_formed.1.1.0.1) tt) c.if-low.true c.if-low-quotient.true c.if-quotient-high.true c.if-price-f.true
+returns-then-price-f c = told c.args.f c.args.m c.args.quotient c.args.guess c.requires.0 c.requires.1 (subst T (sym c.well_formed.1.1.1.0.1) tt) (subst T (sym c.well_formed.1.1.0.1) tt) c.if-low.true c.if-low-quotient.true c.if-quotient-high.true c.if-price-f.true
 
 pub returns-else-price-f : goal.returns-else-price-f
 unfolding of_bits

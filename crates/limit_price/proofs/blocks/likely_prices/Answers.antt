@@ -8,7 +8,7 @@ pub loop-k-init : goal.loop-k-init
 loop-k-init c = (omega arith, c.requires.0, filled_none _ _)
 
 pub likely_price-requires : goal.likely_price-requires
-likely_price-requires c = let s = c in (s.requires.1, s.requires.2)
+likely_price-requires c = (c.requires.1, c.requires.2)
 
 pub loop-k-preserved : goal.loop-k-preserved
 loop-k-preserved c = let l = c.loop-k in

@@ -10,5 +10,4 @@ unfolding of_bits
 returns-then-price c = by_guess _ _ _ _ _ c.requires.0 c.requires.1 c.if-price.true
 
 pub returns-then-is_finite : goal.returns-then-is_finite
-returns-then-is_finite c = let s = c in
-    ap (λ z. s.args.f ⊖ s.args.m ⊗ z) c.sqrt.ensures ∙ by_root s.args.f s.args.w s.args.m s.args.quotient s.requires.0 (sym c.is_finite.ensures ∙ c.if-is_finite.true)
+returns-then-is_finite c = ap (λ z. c.args.f ⊖ c.args.m ⊗ z) c.sqrt.ensures ∙ by_root c.args.f c.args.w c.args.m c.args.quotient c.requires.0 (sym c.is_finite.ensures ∙ c.if-is_finite.true)
