@@ -35,9 +35,9 @@ numbered_at-a_1-requires c = let two = c in
 pub loop-j-preserved : goal.loop-j-preserved
 unfolding of_bits neg
 loop-j-preserved c = let l = c in (
-      omega arith,
-      centred_turn _ _ l.loop-j.j _ _ _ _ _ l.loop-j.invariant.1 c.powi-sign.ensures c.comb-combin.ensures c.powi-p.ensures c.numbered_at-a_1.ensures,
-    )
+  omega arith,
+  centred_turn _ _ l.loop-j.j _ _ _ _ _ l.loop-j.invariant.1 c.powi-sign.ensures c.comb-combin.ensures c.powi-p.ensures c.numbered_at-a_1.ensures,
+)
 
 pub returns : goal.returns
 returns c = let two = c in

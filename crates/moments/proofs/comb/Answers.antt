@@ -17,14 +17,15 @@ pub loop-i-init : goal.loop-i-init
 unfolding of_bits falling rising
 loop-i-init c =
     elim c.if-n-k-2.branch [
-      then-n-k-2 w ↦
-        let e : c.if-n-k-2.k_eff ≡ lesser c.args.k (c.args.n - c.args.k) = w.k_eff-is ∙ simp (lt-ltb _ _ w.if-n-k-2.true) in
-        let f : c.if-n-k-2.k_eff ≡ c.args.n - c.args.k = w.k_eff-is in
-        (omega arith, omega arith, refl, refl, e, omega arith)
-    | else-n-k-2 w ↦
-        let e : c.if-n-k-2.k_eff ≡ lesser c.args.k (c.args.n - c.args.k) = w.k_eff-is ∙ simp (le-ltb _ _ w.if-n-k-2.false) in
-        let f : c.if-n-k-2.k_eff ≡ c.args.k = w.k_eff-is in
-        (omega arith, omega arith, refl, refl, e, omega arith) ]
+      | then-n-k-2 w ↦
+          let e : c.if-n-k-2.k_eff ≡ lesser c.args.k (c.args.n - c.args.k) = w.k_eff-is ∙ simp (lt-ltb _ _ w.if-n-k-2.true) in
+          let f : c.if-n-k-2.k_eff ≡ c.args.n - c.args.k = w.k_eff-is in
+          (omega arith, omega arith, refl, refl, e, omega arith)
+      | else-n-k-2 w ↦
+          let e : c.if-n-k-2.k_eff ≡ lesser c.args.k (c.args.n - c.args.k) = w.k_eff-is ∙ simp (le-ltb _ _ w.if-n-k-2.false) in
+          let f : c.if-n-k-2.k_eff ≡ c.args.k = w.k_eff-is in
+          (omega arith, omega arith, refl, refl, e, omega arith)
+    ]
 
 pub int_to_float-num : goal.int_to_float-num
 int_to_float-num c = small _ (omega arith)

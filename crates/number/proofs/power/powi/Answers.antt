@@ -14,16 +14,18 @@ loop-b-preserved-then-b-gt0 c =
     let l = c.loop-b in
     turn _ _ l.r l.a _ l.b l.invariant c.loop-b-test.true
     (elim c.if-b-eq1.branch [
-      then-b-eq1 w ↦ w.r-is ∙ ap (λ (t : Bool). cond t (mul binary64 l.r l.a) l.r) (sym (eq-eqb (l.b % 2) 1 w.if-b-eq1.true))
-    | else-b-eq1 w ↦ w.r-is ∙ ap (λ (t : Bool). cond t (mul binary64 l.r l.a) l.r) (sym (ne_eqb (l.b % 2) 1 w.if-b-eq1.false)) ])
+      | then-b-eq1 w ↦ w.r-is ∙ ap (λ (t : Bool). cond t (mul binary64 l.r l.a) l.r) (sym (eq-eqb (l.b % 2) 1 w.if-b-eq1.true))
+      | else-b-eq1 w ↦ w.r-is ∙ ap (λ (t : Bool). cond t (mul binary64 l.r l.a) l.r) (sym (ne_eqb (l.b % 2) 1 w.if-b-eq1.false))
+    ])
 
 pub loop-b-preserved : goal.loop-b-preserved
 loop-b-preserved c =
     let l = c.loop-b in
     let e : c.if-b-eq1.r ≡ cond (nat_eq (l.b % 2) 1) (mul binary64 l.r l.a) l.r =
-        elim c.if-b-eq1.branch [
-          then-b-eq1 w ↦ w.r-is ∙ ap (λ (t : Bool). cond t (mul binary64 l.r l.a) l.r) (sym (eq-eqb (l.b % 2) 1 w.if-b-eq1.true))
-        | else-b-eq1 w ↦ w.r-is ∙ ap (λ (t : Bool). cond t (mul binary64 l.r l.a) l.r) (sym (ne_eqb (l.b % 2) 1 w.if-b-eq1.false)) ] in
+    elim c.if-b-eq1.branch [
+      | then-b-eq1 w ↦ w.r-is ∙ ap (λ (t : Bool). cond t (mul binary64 l.r l.a) l.r) (sym (eq-eqb (l.b % 2) 1 w.if-b-eq1.true))
+      | else-b-eq1 w ↦ w.r-is ∙ ap (λ (t : Bool). cond t (mul binary64 l.r l.a) l.r) (sym (ne_eqb (l.b % 2) 1 w.if-b-eq1.false))
+    ] in
     idle _ _ _ _ _ _ (turn _ _ l.r l.a _ l.b l.invariant c.loop-b-test.true e) l.invariant.held c.if-b-gt0.false
 
 pub returns : goal.returns

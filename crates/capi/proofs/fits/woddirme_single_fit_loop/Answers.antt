@@ -1,0 +1,22 @@
+-- `capi::fits::woddirme_single_fit_loop` meets its contract: by which slice is too short, or by what each call ensures (`Fitting.antt`). Assumes nothing.
+use Rattle.capi.proofs.Fitting.{short_fit, short_row, leaves}
+use Rattle.capi.proofs.fits.woddirme_single_fit_loop.Goals as goal
+
+pub returns-then-fit-lt12 : goal.returns-then-fit-lt12
+returns-then-fit-lt12 c = let a = c.args in
+    let e = short_fit a.moments.now a.variant a.factor a.max_iter a.epsilon_override.now a.weights.now a.fit.now a.row.now c.if-fit-lt12.true in
+    (rw e, rw e, rw e, rw e)
+
+pub returns-then-row-lt6 : goal.returns-then-row-lt6
+returns-then-row-lt6 c = let a = c.args in
+    let e = short_row a.moments.now a.variant a.factor a.max_iter a.epsilon_override.now a.weights.now a.fit.now a.row.now c.if-fit-lt12.false c.if-row-lt6.true in
+    (rw e, rw e, rw e, rw e)
+
+pub returns : goal.returns
+returns c = let left = c in
+    let searched = left in
+    let given = searched in
+    let made = given in
+    let wide = made in
+    let a = wide.args in
+    leaves a.moments.now a.variant a.factor a.max_iter a.epsilon_override.now a.weights.now a.fit.now a.row.now _ _ _ _ _ _ _ _ made.state_of-m.ensures given.override_of-e.ensures searched.single_fit_loop-r.ensures wide.if-fit-lt12.false wide.if-row-lt6.false left.leave.ensures
