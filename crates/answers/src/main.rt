@@ -27,12 +27,7 @@ fn serve(
 
 // A proved loop has to end, and nothing says that the input does. So the loop counts its turns
 // down, from a number that no run uses up.
-fn serve_all(
-    rt: &HostRuntime,
-    line: &mut [u8],
-    xs: &mut [f64],
-    out: &mut [u8],
-) -> io::Result<()> {
+fn serve_all(rt: &HostRuntime, line: &mut [u8], xs: &mut [f64], out: &mut [u8]) -> io::Result<()> {
     let mut s = lines::begin();
     let mut turns = u64::MAX;
     while turns > 0 {
