@@ -6,7 +6,7 @@ use native.Mathlib.Omega.{arith}
 use mathlib.Core.Bool.{Bool, true, false}
 use lib.Dec.{T}
 use lib.IntN.{ℤ, ◌+ℤ◌, pos}
-use lib.Ieee.{Float, nan, inf, fin, Format, emax, low, up, down, odd, fits, round, mul}
+use lib.Ieee.{Float, nan, inf, fin, Format, emax, low, up, down, fits, round, mul}
 use lib.Ieee.Exact.{round_exact}
 use lib.Ieee.Fits.{down_pos, round-fits}
 use Rattle.float.specs.Root.{root}

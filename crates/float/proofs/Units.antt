@@ -7,7 +7,7 @@ use mathlib.Core.Bool.{Bool, ◌&&◌, cond}
 use lib.Dec.{T, leb, ltb, eqb, leb→le, ltb→lt}
 use lib.IntN.{ℤ, pos, negsuc}
 use lib.Pow.{pow-add, pow_pos, pow-lt}
-use lib.Ieee.{Float, nan, inf, fin, Format, prec, emax, low, up, down, size, odd, fits, hid, top, of_bits, to_bits}
+use lib.Ieee.{Float, nan, inf, fin, Format, prec, emax, low, up, down, size, fits, hid, top, of_bits, to_bits}
 use lib.Ieee.Bits.{of_bits-to_bits}
 use lib.Ieee.Exact.{HasValue}
 use lib.Ieee.Fits.{down_pos, and_l, and_r}

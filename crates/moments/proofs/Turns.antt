@@ -8,7 +8,7 @@ use lib.ListN.{length, get_or, set, drop, length-append}
 use lib.Seq.{drop-cons, set_at, length_front, length-take-le, drop-set-lt}
 use lib.Ieee.{Float, nan, binary64, add, mul}
 use borrow.Author.Tests.{le-ltb, lt-ltb}
-use Rattle.float.specs.Constants.{nought, one}
+use Rattle.float.specs.Constants.{nought}
 use Rattle.float.specs.Power.{power}
 use Rattle.formula.specs.Formula.{given, ◌↑◌, eval}
 use Rattle.formula.proofs.Powers.{eval_power}

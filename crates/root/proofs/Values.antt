@@ -7,7 +7,7 @@ use mathlib.Core.Bool.{Bool, true, false, ◌&&◌}
 use lib.Dec.{T, leb, ltb, eqb, ltb→lt}
 use lib.IntN.{ℤ, pos}
 use lib.Pow.{pow-add, pow_pos}
-use lib.Ieee.{Float, nan, inf, fin, low, binary64, up, down, size, eq, lt, fits, of_bits, to_bits}
+use lib.Ieee.{Float, nan, inf, fin, binary64, up, down, size, eq, lt, fits, of_bits, to_bits}
 use lib.Ieee.Bits.{of_bits-to_bits}
 use lib.Ieee.Digits.{size-le}
 use lib.Ieee.Fits.{down_pos, and_r, kept-lt}

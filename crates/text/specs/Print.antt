@@ -1,4 +1,4 @@
--- Numbers as they are printed, and a buffer with a text in it. `digits b k n` is the last k digits of n in base b. Definitions only.
+-- Numbers as they are printed, and a buffer with a text in it. `last_digits b k n` is the last k digits of n in base b. Definitions only.
 use Rattle.std.specs.Prelude.{ℕ, zero, suc, ◌+◌, ◌/◌, ◌≤◌, ◌≡◌, cond, List, ◌++◌, ltb, leb, ℤ, pos, negsuc, length, take, drop}
 use Rattle.io.specs.Digits.{last_digits}
 use Rattle.text.specs.Bytes.{bytes}

@@ -1,5 +1,4 @@
 -- `ef3m::search` meets its contract: by what grid's search promises. Assumes nothing.
-use borrow.Author.Rules.{rules}
 use Rattle.ef3m.proofs.search.Goals as goal
 
 pub returns : goal.returns

@@ -1,5 +1,4 @@
 -- `ef3m::single_fit_through` meets its contract: by what `through` promises, field by field. Assumes nothing.
-use borrow.Author.Rules.{rules}
 use Rattle.ef3m.proofs.single_fit_through.Goals as goal
 
 pub returns : goal.returns

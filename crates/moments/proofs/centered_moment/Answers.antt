@@ -1,13 +1,8 @@
 -- `moments::centered_moment` meets its contract: after j turns the sum has j terms (`Turns.antt`). Assumes nothing.
 use mathlib.Core.Path.{◌≡◌}
-use mathlib.Core.List.{[]}
-use Prim.Native.Nat.{◌≤◌, ◌+◌, ◌-◌}
+use Prim.Native.Nat.{◌+◌}
 use lib.Ieee.{of_bits, neg}
-use borrow.Author.Rules.{rules}
 use native.Mathlib.Omega.{arith}
-use Rattle.formula.specs.Formula.{eval}
-use Rattle.formula.specs.Whole.{sum_of}
-use Rattle.moments.specs.Orders.{numbered, centred_term}
 use Rattle.moments.proofs.Turns.{centred_start, centred_turn, centred_9, centred_1, centred_2, centred_done, some}
 use Rattle.moments.proofs.centered_moment.Goals as goal
 

@@ -1,11 +1,6 @@
-use mathlib.Core.Path.{◌≡◌, refl, ◌∙◌}
+use mathlib.Core.Path.{◌≡◌}
 use Prim.Native.Nat.{◌≤◌, ◌-◌}
-use native.Mathlib.Omega.{arith}
-use borrow.Author.Tests.{lt-ltb, le-ltb}
-use lib.Ieee.{of_bits}
-use mathlib.Core.Logic.{⊎_elim}
-use Rattle.moments.proofs.Products.{small, falling_more, rising_more, chosen}
-use Rattle.moments.specs.Comb.{falling, rising, choose, lesser}
+use Rattle.moments.specs.Comb.{falling, rising, lesser}
 use Rattle.moments.proofs.comb.Given as goal
 
 abbrev pub invariant-loop-i : goal.invariant-loop-i

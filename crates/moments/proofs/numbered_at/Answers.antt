@@ -1,5 +1,4 @@
 -- `moments::numbered_at` meets its contract: number 0 is 1, and number k + 1 stands at k. Assumes nothing.
-use borrow.Author.Rules.{rules}
 use lib.Ieee.{of_bits}
 use Rattle.moments.proofs.Products.{at_nought, at_further}
 use Rattle.moments.proofs.numbered_at.Goals as goal

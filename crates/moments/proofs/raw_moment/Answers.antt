@@ -1,11 +1,10 @@
 -- `moments::raw_moment` meets its contract: after i turns the first i places are written and the others as they were (`Turns.antt`). Assumes nothing.
 use mathlib.Core.Path.{◌≡◌, refl, ap, ◌∙◌}
-use Prim.Native.Nat.{◌≤◌, ◌<◌, ◌+◌, ◌-◌}
+use Prim.Native.Nat.{◌≤◌, ◌<◌, ◌+◌}
 use native.Mathlib.Nat.{le_refl}
 use lib.ListN.{length, set, length-set}
-use borrow.Author.Rules.{rules}
 use native.Mathlib.Omega.{arith}
-use Rattle.moments.proofs.Turns.{some, filled, fill, fill_first, raw_at, raw_2, raw_8, raw_done, needed}
+use Rattle.moments.proofs.Turns.{some, fill, fill_first, raw_at, raw_2, raw_8, raw_done, needed}
 use Rattle.moments.proofs.raw_moment.Goals as goal
 
 pub returns-then-central-gt16 : goal.returns-then-central-gt16

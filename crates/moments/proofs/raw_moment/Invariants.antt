@@ -1,10 +1,7 @@
-use mathlib.Core.Path.{◌≡◌, refl, ap, ◌∙◌}
-use Prim.Native.Nat.{◌≤◌, ◌<◌, ◌+◌, ◌-◌}
-use native.Mathlib.Nat.{le_refl}
-use lib.ListN.{length, set, length-set}
-use borrow.Author.Rules.{rules}
-use native.Mathlib.Omega.{arith}
-use Rattle.moments.proofs.Turns.{some, filled, fill, fill_first, raw_at, raw_2, raw_8, raw_done, needed}
+use mathlib.Core.Path.{◌≡◌}
+use Prim.Native.Nat.{◌≤◌, ◌<◌, ◌-◌}
+use lib.ListN.{length}
+use Rattle.moments.proofs.Turns.{filled}
 use Rattle.moments.proofs.raw_moment.Given as goal
 
 abbrev pub invariant-loop-i : goal.invariant-loop-i

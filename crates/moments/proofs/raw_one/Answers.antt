@@ -1,13 +1,8 @@
 -- `moments::raw_one` meets its contract: after k turns the sum has k terms (`Turns.antt`). Assumes nothing.
 use mathlib.Core.Path.{◌≡◌}
-use mathlib.Core.List.{[], ◌∷◌}
-use Prim.Native.Nat.{◌≤◌, ◌+◌, ◌-◌}
+use Prim.Native.Nat.{◌+◌}
 use lib.Ieee.{of_bits}
-use borrow.Author.Rules.{rules}
 use native.Mathlib.Omega.{arith}
-use Rattle.formula.specs.Formula.{eval}
-use Rattle.formula.specs.Whole.{sum_of}
-use Rattle.moments.specs.Orders.{numbered, raw_term}
 use Rattle.moments.proofs.Turns.{raw_start, raw_turn, raw_end}
 use Rattle.moments.proofs.raw_one.Goals as goal
 

@@ -1,13 +1,9 @@
 use mathlib.Core.Path.{◌≡◌}
 use mathlib.Core.List.{[], ◌∷◌}
 use Prim.Native.Nat.{◌≤◌, ◌+◌, ◌-◌}
-use lib.Ieee.{of_bits}
-use borrow.Author.Rules.{rules}
-use native.Mathlib.Omega.{arith}
 use Rattle.formula.specs.Formula.{eval}
 use Rattle.formula.specs.Whole.{sum_of}
 use Rattle.moments.specs.Orders.{numbered, raw_term}
-use Rattle.moments.proofs.Turns.{raw_start, raw_turn, raw_end}
 use Rattle.moments.proofs.raw_one.Given as goal
 
 abbrev pub invariant-loop-k : goal.invariant-loop-k

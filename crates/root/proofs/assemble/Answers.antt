@@ -1,6 +1,5 @@
 -- `root::assemble` meets its contract: an exponent is even or odd, and either way the digits are those of the rounded root. Assumes nothing.
 use native.Mathlib.Omega.{arith}
-use borrow.Author.Rules.{rules}
 use Rattle.root.proofs.Rounding.{doubled_in, assembled}
 use Rattle.root.proofs.assemble.Goals as goal
 

@@ -1,6 +1,5 @@
 -- `root::digits_of` meets its contract: a normal double has its digits, a subnormal one is lifted. Assumes nothing.
 use native.Mathlib.Omega.{arith}
-use borrow.Author.Rules.{rules}
 use Rattle.root.proofs.Values.{normal_scales, low_scales}
 use Rattle.root.proofs.digits_of.Goals as goal
 

@@ -1,5 +1,4 @@
 -- `root::from_guess` meets its contract: by what its calls promise; what is at least 1 is no NaN. Assumes nothing.
-use borrow.Author.Rules.{rules}
 use Rattle.root.proofs.Checked.{le_no_nan}
 use Rattle.root.proofs.from_guess.Goals as goal
 

@@ -1,6 +1,5 @@
 -- `root::guess` is safe: no pattern that it makes is a NaN's. Assumes nothing.
 use native.Mathlib.Omega.{arith}
-use borrow.Author.Rules.{rules}
 use Rattle.float.proofs.Patterns.{clean}
 use Rattle.root.proofs.guess.Goals as goal
 

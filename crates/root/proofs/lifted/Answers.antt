@@ -1,6 +1,6 @@
 -- `root::lifted` meets its contract. The loop's state and its turns are `LiftTurns.antt`'s. Assumes nothing.
 use native.Mathlib.Omega.{arith}
-use Rattle.root.proofs.LiftTurns.{Lifting, start, left, turn, done}
+use Rattle.root.proofs.LiftTurns.{start, left, turn, done}
 use Rattle.root.proofs.lifted.Goals as goal
 
 pub loop-m-init : goal.loop-m-init

@@ -1,5 +1,4 @@
-use native.Mathlib.Omega.{arith}
-use Rattle.root.proofs.LiftTurns.{Lifting, start, left, turn, done}
+use Rattle.root.proofs.LiftTurns.{Lifting}
 use Rattle.root.proofs.lifted.Given as goal
 
 abbrev pub invariant-loop-m : goal.invariant-loop-m

@@ -1,9 +1,7 @@
 -- `root::positive_root` meets its contract: an infinity is its own root, and the digits of any other make the pattern of the root. Assumes nothing.
 use mathlib.Core.Path.{sym, subst}
 use native.Mathlib.Omega.{arith}
-use borrow.Author.Rules.{rules}
 use lib.Dec.{T}
-use lib.Ieee.{binary64, fits}
 use Rattle.float.proofs.Zero.{above_no_nan}
 use Rattle.root.proofs.Values.{high_root, bits_pos, scaled_root}
 use Rattle.root.proofs.positive_root.Goals as goal

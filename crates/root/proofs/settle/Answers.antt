@@ -1,5 +1,4 @@
 -- `root::settle` meets its contract, by `proofs/Checked.antt`. Assumes nothing.
-use borrow.Author.Rules.{rules}
 use Rattle.root.proofs.Checked.{next, stay}
 use Rattle.root.proofs.settle.Goals as goal
 

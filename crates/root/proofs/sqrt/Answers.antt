@@ -1,6 +1,5 @@
 -- `root::sqrt` meets its contract: positive, zero, or neither. Assumes nothing.
 use mathlib.Core.Path.{◌≡◌, refl, ◌∙◌}
-use borrow.Author.Rules.{rules}
 use lib.Ieee.{binary64, nan, div, of_bits}
 use Rattle.root.proofs.Values.{zero_root, no_root}
 use Rattle.root.proofs.sqrt.Goals as goal

@@ -1,6 +1,6 @@
 -- `root::whole_root` meets its contract. The loop's state and its turns are `DigitTurns.antt`'s. Assumes nothing.
 use native.Mathlib.Omega.{arith}
-use Rattle.root.proofs.DigitTurns.{State, start, turn_up, turn_down, done}
+use Rattle.root.proofs.DigitTurns.{start, turn_up, turn_down, done}
 use Rattle.root.proofs.whole_root.Goals as goal
 
 pub loop-b-init : goal.loop-b-init

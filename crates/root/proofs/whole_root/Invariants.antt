@@ -1,5 +1,4 @@
-use native.Mathlib.Omega.{arith}
-use Rattle.root.proofs.DigitTurns.{State, start, turn_up, turn_down, done}
+use Rattle.root.proofs.DigitTurns.{State}
 use Rattle.root.proofs.whole_root.Given as goal
 
 abbrev pub invariant-loop-b : goal.invariant-loop-b
