@@ -8,6 +8,6 @@ returns-then-moments-lt5 c = let e = lt-ltb (length c.args.moments.now) 5 c.if-m
     (rw e, rw e)
 
 pub returns : goal.returns
-returns c = let test = c in
-    let e = le-ltb (length test.args.moments.now) 5 test.if-moments-lt5.false in
+returns c =
+    let e = le-ltb (length c.args.moments.now) 5 c.if-moments-lt5.false in
     (rw e, rw (e, ← c.get_moments-m.ensures) c.put_five.ensures)

@@ -9,8 +9,8 @@ returns-then-numbers-lt5 c = let e = c.in-Stepped.is in
     (rw (e, short), rw (e, short), rw (e, short))
 
 pub returns : goal.returns
-returns c = let test = c in
-    let e = test.in-Stepped.is in
-    let wide = le-ltb (length test.args.numbers.now) 5 test.if-numbers-lt5.false in
+returns c =
+    let e = c.in-Stepped.is in
+    let wide = le-ltb (length c.args.numbers.now) 5 c.if-numbers-lt5.false in
     let left = c.leave_step.ensures in
     (rw (e, wide), rw (e, wide) left.0, rw (e, wide) left.1)

@@ -8,9 +8,6 @@ returns-then-fit-lt12 c = let a = c.args in
     (rw e, rw e, rw e, rw e)
 
 pub returns : goal.returns
-returns c = let left = c in
-    let walked = left in
-    let made = walked in
-    let wide = made in
-    let a = wide.args in
-    leaves a.moments.now a.variant a.factor a.max_iter a.mu_2 a.p_1 a.fit.now _ _ _ _ _ _ _ _ made.state_of-m.ensures walked.iterate_from-w.ensures wide.if-fit-lt12.false left.leave_walk.ensures
+returns c =
+    let a = c.args in
+    leaves a.moments.now a.variant a.factor a.max_iter a.mu_2 a.p_1 a.fit.now _ _ _ _ _ _ _ _ c.state_of-m.ensures c.iterate_from-w.ensures c.if-fit-lt12.false c.leave_walk.ensures

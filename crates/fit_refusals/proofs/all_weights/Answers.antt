@@ -10,8 +10,8 @@ unfolding all_weights
 loop-i-init c = (omega arith, refl)
 
 pub loop-i-preserved : goal.loop-i-preserved
-loop-i-preserved c = let l = c in
-    (omega arith, one_more _ l.loop-i.i _ _ l.loop-i.invariant.1 c.and_weight-ok.ensures)
+loop-i-preserved c =
+    (omega arith, one_more _ c.loop-i.i _ _ c.loop-i.invariant.1 c.and_weight-ok.ensures)
 
 pub returns : goal.returns
 returns c = let e : c.loop-i.i ≡ c.args.n = omega arith in

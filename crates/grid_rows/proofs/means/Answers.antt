@@ -11,9 +11,9 @@ pub loop-j-init : goal.loop-j-init
 loop-j-init c = (omega arith, refl, λ j l. absurd (omega (arith, l)))
 
 pub loop-j-preserved : goal.loop-j-preserved
-loop-j-preserved c = let l = c in
-    let a = l.args in
-    (omega arith, length-set l.loop-j.u l.loop-j.j _ ∙ l.loop-j.invariant.1, put_more (λ i y. y ≡ mean_of a.m a.deviation (suc (a.from + i))) l.loop-j.j l.loop-j.u _ (omega (arith, l.loop-j.invariant.1)) l.loop-j.invariant.2 (mean_is _ _ _ _ c.mean_of.ensures))
+loop-j-preserved c =
+    let a = c.args in
+    (omega arith, length-set c.loop-j.u c.loop-j.j _ ∙ c.loop-j.invariant.1, put_more (λ i y. y ≡ mean_of a.m a.deviation (suc (a.from + i))) c.loop-j.j c.loop-j.u _ (omega (arith, c.loop-j.invariant.1)) c.loop-j.invariant.2 (mean_is _ _ _ _ c.mean_of.ensures))
 
 pub returns : goal.returns
 returns c = λ j l. c.loop-j.invariant.2 j (omega (arith, l))

@@ -14,12 +14,12 @@ pub loop-j-init : goal.loop-j-init
 loop-j-init c = (omega arith, search rules, λ j l. absurd (omega (arith, l)), λ i l. refl)
 
 pub loop-j-preserved : goal.loop-j-preserved
-loop-j-preserved c = let l = c in
-    let a = l.args in
-    let v = l.loop-j.v in
-    let j = l.loop-j.j in
-    let own = ap (λ x. sigma2_squared (listed a.a) x (get_or a.weights.now (a.from + j) nan)) (l.loop-j.invariant.3 j (omega arith)) in
-    (omega arith, length-set v j _ ∙ l.loop-j.invariant.1, put_more (λ i y. y ≡ sigma2_squared (listed a.a) (get_or a.u i nan) (get_or a.weights.now (a.from + i) nan)) j v _ (omega (arith, l.loop-j.invariant.1)) l.loop-j.invariant.2 (c.sigma_2_squared.ensures ∙ own), put_later j a.u v _ l.loop-j.invariant.3)
+loop-j-preserved c =
+    let a = c.args in
+    let v = c.loop-j.v in
+    let j = c.loop-j.j in
+    let own = ap (λ x. sigma2_squared (listed a.a) x (get_or a.weights.now (a.from + j) nan)) (c.loop-j.invariant.3 j (omega arith)) in
+    (omega arith, length-set v j _ ∙ c.loop-j.invariant.1, put_more (λ i y. y ≡ sigma2_squared (listed a.a) (get_or a.u i nan) (get_or a.weights.now (a.from + i) nan)) j v _ (omega (arith, c.loop-j.invariant.1)) c.loop-j.invariant.2 (c.sigma_2_squared.ensures ∙ own), put_later j a.u v _ c.loop-j.invariant.3)
 
 pub returns : goal.returns
 returns c = λ j l. c.loop-j.invariant.2 j (omega (arith, l))

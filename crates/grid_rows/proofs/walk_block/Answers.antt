@@ -12,14 +12,13 @@ loop-j-init c = (omega arith, c.requires.0 ∙ ap (search_to _ _ _) (plus_none _
 
 pub loop-j-preserved-then-x : goal.loop-j-preserved-then-x
 unfolding of_bits
-loop-j-preserved-then-x c = let l = c in
-    let b = l in
-    let h : l.loop-j.j < b.args.k = omega arith in
-    (omega arith, row_passed _ _ _ _ _ _ _ _ l.loop-j.invariant.1 b.first_five.ensures (b.means-u.ensures l.loop-j.j h) (b.variances-v.ensures l.loop-j.j h) c.if-x.true ∙ ap (search_to _ _ _) (plus_one _ _))
+loop-j-preserved-then-x c =
+    let h : c.loop-j.j < c.args.k = omega arith in
+    (omega arith, row_passed _ _ _ _ _ _ _ _ c.loop-j.invariant.1 c.first_five.ensures (c.means-u.ensures c.loop-j.j h) (c.variances-v.ensures c.loop-j.j h) c.if-x.true ∙ ap (search_to _ _ _) (plus_one _ _))
 
 pub loop-j-preserved : goal.loop-j-preserved
-loop-j-preserved c = let l = c in
-    (omega arith, row_more _ _ _ _ _ _ _ l.loop-j.invariant.1 c.mean_of.ensures c.walk_row-t.ensures ∙ ap (search_to _ _ _) (plus_one _ _))
+loop-j-preserved c =
+    (omega arith, row_more _ _ _ _ _ _ _ c.loop-j.invariant.1 c.mean_of.ensures c.walk_row-t.ensures ∙ ap (search_to _ _ _) (plus_one _ _))
 
 pub returns : goal.returns
 returns c = let a = c.args in

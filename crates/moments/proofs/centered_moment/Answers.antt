@@ -20,21 +20,21 @@ unfolding of_bits
 loop-j-init c = (omega arith, centred_start _ _)
 
 pub bounds-moments-0 : goal.bounds-moments-0
-bounds-moments-0 c = let two = c in
-    omega (arith, (some two.args.order _ _ two.at_least_one.ensures two.if-moments-at_least_one.false).0)
+bounds-moments-0 c =
+    omega (arith, (some c.args.order _ _ c.at_least_one.ensures c.if-moments-at_least_one.false).0)
 
 pub numbered_at-a_1-requires : goal.numbered_at-a_1-requires
-numbered_at-a_1-requires c = let two = c in
-    omega (arith, (some two.args.order _ _ two.at_least_one.ensures two.if-moments-at_least_one.false).1)
+numbered_at-a_1-requires c =
+    omega (arith, (some c.args.order _ _ c.at_least_one.ensures c.if-moments-at_least_one.false).1)
 
 pub loop-j-preserved : goal.loop-j-preserved
 unfolding of_bits neg
-loop-j-preserved c = let l = c in (
+loop-j-preserved c = (
   omega arith,
-  centred_turn _ _ l.loop-j.j _ _ _ _ _ l.loop-j.invariant.1 c.powi-sign.ensures c.comb-combin.ensures c.powi-p.ensures c.numbered_at-a_1.ensures,
+  centred_turn _ _ c.loop-j.j _ _ _ _ _ c.loop-j.invariant.1 c.powi-sign.ensures c.comb-combin.ensures c.powi-p.ensures c.numbered_at-a_1.ensures,
 )
 
 pub returns : goal.returns
-returns c = let two = c in
-    let e : c.loop-j.j ≡ two.args.order + 1 = omega arith in
-    centred_done _ _ _ c.loop-j.j _ two.if-order-gt16.false two.at_least_one.ensures two.if-moments-at_least_one.false c.if-moments-gt16.false e c.loop-j.invariant.1
+returns c =
+    let e : c.loop-j.j ≡ c.args.order + 1 = omega arith in
+    centred_done _ _ _ c.loop-j.j _ c.if-order-gt16.false c.at_least_one.ensures c.if-moments-at_least_one.false c.if-moments-gt16.false e c.loop-j.invariant.1

@@ -17,25 +17,23 @@ pub bounds-out-0 : goal.bounds-out-0
 bounds-out-0 c = omega (arith, (some (length c.args.central.now) _ _ c.at_least_one-need.ensures c.if-out-need.false).0)
 
 pub loop-i-init : goal.loop-i-init
-loop-i-init c = let start = c in
-    (omega arith, (some (length start.args.central.now) _ _ c.at_least_one-need.ensures (le_refl _)).0, refl, fill_first _ _ start.args.out.now (some (length start.args.central.now) _ _ c.at_least_one-need.ensures c.if-out-need.false).0)
+loop-i-init c =
+    (omega arith, (some (length c.args.central.now) _ _ c.at_least_one-need.ensures (le_refl _)).0, refl, fill_first _ _ c.args.out.now (some (length c.args.central.now) _ _ c.at_least_one-need.ensures c.if-out-need.false).0)
 
 pub raw_one-requires : goal.raw_one-requires
-raw_one-requires c = let one = c in
-    let start = one in
-    let h : c.loop-i.i + 1 ≤ length start.args.central.now = needed _ _ _ one.at_least_one-need.ensures c.loop-i.invariant.0 c.loop-i-test.true in
-    (h, omega (arith, one.if-central-gt16.false))
+raw_one-requires c =
+    let h : c.loop-i.i + 1 ≤ length c.args.central.now = needed _ _ _ c.at_least_one-need.ensures c.loop-i.invariant.0 c.loop-i-test.true in
+    (h, omega (arith, c.if-central-gt16.false))
 
 pub bounds-out-i : goal.bounds-out-i
-bounds-out-i c = let start = c in
-    let e : length c.loop-i.out ≡ length start.args.out.now = c.loop-i.invariant.2 ∙ length-set start.args.out.now 0 start.args.mean in
+bounds-out-i c =
+    let e : length c.loop-i.out ≡ length c.args.out.now = c.loop-i.invariant.2 ∙ length-set c.args.out.now 0 c.args.mean in
     omega arith
 
 pub loop-i-preserved : goal.loop-i-preserved
 loop-i-preserved c = let l = c.loop-i in
-    let start = c in
-    let old = set start.args.out.now 0 start.args.mean in
-    let e : length old ≡ length start.args.out.now = length-set start.args.out.now 0 start.args.mean in
+    let old = set c.args.out.now 0 c.args.mean in
+    let e : length old ≡ length c.args.out.now = length-set c.args.out.now 0 c.args.mean in
     let h : l.i < length old = omega arith in (
       omega arith,
       omega arith,
@@ -44,11 +42,10 @@ loop-i-preserved c = let l = c.loop-i in
     )
 
 pub shape_of-out : goal.shape_of-out
-shape_of-out c = let start = c in
-    c.loop-i.invariant.2 ∙ length-set start.args.out.now 0 start.args.mean
+shape_of-out c =
+    c.loop-i.invariant.2 ∙ length-set c.args.out.now 0 c.args.mean
 
 pub returns : goal.returns
 returns c = let l = c.loop-i in
-    let one = c in
-    let e : l.i ≡ one.at_least_one-need.result = omega arith in
-    raw_done _ _ _ _ _ l.i one.if-central-gt16.false one.at_least_one-need.ensures c.if-out-need.false e l.invariant.0 l.invariant.3
+    let e : l.i ≡ c.at_least_one-need.result = omega arith in
+    raw_done _ _ _ _ _ l.i c.if-central-gt16.false c.at_least_one-need.ensures c.if-out-need.false e l.invariant.0 l.invariant.3

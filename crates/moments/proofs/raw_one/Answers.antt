@@ -11,8 +11,8 @@ unfolding of_bits
 loop-k-init c = (omega arith, raw_start _ _ _)
 
 pub loop-k-preserved : goal.loop-k-preserved
-loop-k-preserved c = let l = c in
-    (omega arith, raw_turn _ _ _ l.loop-k.k _ _ _ _ l.loop-k.invariant.1 c.comb-combin.ensures c.numbered_at-ck.ensures c.powi-p.ensures)
+loop-k-preserved c =
+    (omega arith, raw_turn _ _ _ c.loop-k.k _ _ _ _ c.loop-k.invariant.1 c.comb-combin.ensures c.numbered_at-ck.ensures c.powi-p.ensures)
 
 pub returns : goal.returns
 returns c = let e : c.loop-k.k ≡ c.args.n + 1 = omega arith in

@@ -17,28 +17,22 @@ returns-then-not-is_bad c = let n = c.of_numbers-number.ensures in
 
 pub returns-then-not-is_bad-2 : goal.returns-then-not-is_bad-2
 unfolding reply_to left_in
-returns-then-not-is_bad-2 c = let f = c in
-    let d1 = f in
-    let n = d1 in
+returns-then-not-is_bad-2 c =
     let e = c.is_bad-2.ensures in
     let h = (ap not c.if-not-is_bad-2.true) in
-    let same : length n.of_numbers-number.new.xs ≡ length n.args.xs.now = omega arith in
-    let is = rw same at f.of_fits-fit.ensures.0 in (
-      next n.of_numbers-number.ensures.0 d1.is_bad.ensures (ap not d1.if-not-is_bad.false) (first is e _ h),
-      rw (← n.of_numbers-number.ensures.1, ← f.of_fits-fit.ensures.1) (by_fits _ _ _ (replied is e h)),
+    let same : length c.of_numbers-number.new.xs ≡ length c.args.xs.now = omega arith in
+    let is = rw same at c.of_fits-fit.ensures.0 in (
+      next c.of_numbers-number.ensures.0 c.is_bad.ensures (ap not c.if-not-is_bad.false) (first is e _ h),
+      rw (← c.of_numbers-number.ensures.1, ← c.of_fits-fit.ensures.1) (by_fits _ _ _ (replied is e h)),
     )
 
 pub returns : goal.returns
 unfolding reply_to left_in
-returns c = let b = c in
-    let d2 = b in
-    let f = d2 in
-    let d1 = f in
-    let n = d1 in
-    let same : length n.of_numbers-number.new.xs ≡ length n.args.xs.now = omega arith in
-    let still : length f.of_fits-fit.new.xs ≡ length n.args.xs.now = omega arith in (
-      next n.of_numbers-number.ensures.0 d1.is_bad.ensures (ap not d1.if-not-is_bad.false)
-          (next (rw same at f.of_fits-fit.ensures.0) d2.is_bad-2.ensures (ap not d2.if-not-is_bad-2.false)
-          (rw still at b.of_bets.ensures.0)),
-      rw (← n.of_numbers-number.ensures.1, ← f.of_fits-fit.ensures.1) b.of_bets.ensures.1,
+returns c =
+    let same : length c.of_numbers-number.new.xs ≡ length c.args.xs.now = omega arith in
+    let still : length c.of_fits-fit.new.xs ≡ length c.args.xs.now = omega arith in (
+      next c.of_numbers-number.ensures.0 c.is_bad.ensures (ap not c.if-not-is_bad.false)
+          (next (rw same at c.of_fits-fit.ensures.0) c.is_bad-2.ensures (ap not c.if-not-is_bad-2.false)
+          (rw still at c.of_bets.ensures.0)),
+      rw (← c.of_numbers-number.ensures.1, ← c.of_fits-fit.ensures.1) c.of_bets.ensures.1,
     )

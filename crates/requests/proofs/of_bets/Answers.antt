@@ -14,6 +14,6 @@ returns-then-not-is_bad c = let is = c.answer-curve.ensures in
 
 pub returns : goal.returns
 unfolding of_bets
-returns c = let d = c in
+returns c =
     let a = c.answer.ensures in
-    (next d.answer-curve.ensures d.is_bad.ensures (ap not d.if-not-is_bad.false) a.0, a.1)
+    (next c.answer-curve.ensures c.is_bad.ensures (ap not c.if-not-is_bad.false) a.0, a.1)

@@ -14,36 +14,33 @@ returns-then-not-is_bad c = let is = c.answer-step.ensures in
 
 pub returns-then-not-is_bad-2 : goal.returns-then-not-is_bad-2
 unfolding of_fits
-returns-then-not-is_bad-2 c = let d1 = c in
+returns-then-not-is_bad-2 c =
     let is = c.answer-walk.ensures in
     let e = c.is_bad-2.ensures in
     let h = (ap not c.if-not-is_bad-2.true) in (
-      next d1.answer-step.ensures d1.is_bad.ensures (ap not d1.if-not-is_bad.false) (first is e _ h),
+      next c.answer-step.ensures c.is_bad.ensures (ap not c.if-not-is_bad.false) (first is e _ h),
       by_walks _ _ (replied is e h),
     )
 
 pub returns-then-not-is_bad-3 : goal.returns-then-not-is_bad-3
 unfolding of_fits
-returns-then-not-is_bad-3 c = let d2 = c in
-    let d1 = d2 in
+returns-then-not-is_bad-3 c =
     let is = c.answer-search.ensures in
     let e = c.is_bad-3.ensures in
     let h = (ap not c.if-not-is_bad-3.true) in (
-      next d1.answer-step.ensures d1.is_bad.ensures (ap not d1.if-not-is_bad.false)
-          (next d2.answer-walk.ensures d2.is_bad-2.ensures (ap not d2.if-not-is_bad-2.false)
+      next c.answer-step.ensures c.is_bad.ensures (ap not c.if-not-is_bad.false)
+          (next c.answer-walk.ensures c.is_bad-2.ensures (ap not c.if-not-is_bad-2.false)
           (first is e _ h)),
       by_searches _ _ (replied is e h),
     )
 
 pub returns : goal.returns
 unfolding of_fits
-returns c = let d3 = c in
-    let d2 = d3 in
-    let d1 = d2 in
+returns c =
     let a = c.answer.ensures in (
-      next d1.answer-step.ensures d1.is_bad.ensures (ap not d1.if-not-is_bad.false)
-          (next d2.answer-walk.ensures d2.is_bad-2.ensures (ap not d2.if-not-is_bad-2.false)
-          (next d3.answer-search.ensures d3.is_bad-3.ensures (ap not d3.if-not-is_bad-3.false)
+      next c.answer-step.ensures c.is_bad.ensures (ap not c.if-not-is_bad.false)
+          (next c.answer-walk.ensures c.is_bad-2.ensures (ap not c.if-not-is_bad-2.false)
+          (next c.answer-search.ensures c.is_bad-3.ensures (ap not c.if-not-is_bad-3.false)
           a.0)),
       a.1,
     )

@@ -14,6 +14,6 @@ returns-then-not-is_bad c = let is = c.answer-leaf.ensures in
 
 pub returns : goal.returns
 unfolding of_numbers
-returns c = let d = c in
+returns c =
     let a = c.answer.ensures in
-    (next d.answer-leaf.ensures d.is_bad.ensures (ap not d.if-not-is_bad.false) a.0, a.1)
+    (next c.answer-leaf.ensures c.is_bad.ensures (ap not c.if-not-is_bad.false) a.0, a.1)

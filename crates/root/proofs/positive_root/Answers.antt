@@ -16,5 +16,5 @@ pub digits_of-s-requires : goal.digits_of-s-requires
 digits_of-s-requires c = (bits_pos c.args.x (subst T (sym c.well_formed.0.1) tt) c.requires, omega arith)
 
 pub returns : goal.returns
-returns c = let s = c in
-    scaled_root s.args.x _ _ _ (subst T (sym s.well_formed.0.1) tt) c.digits_of-s.ensures c.assemble.ensures
+returns c =
+    scaled_root c.args.x _ _ _ (subst T (sym c.well_formed.0.1) tt) c.digits_of-s.ensures c.assemble.ensures

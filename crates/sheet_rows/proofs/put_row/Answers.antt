@@ -9,6 +9,6 @@ pub slice_bounds-put-end : goal.slice_bounds-put-end
 slice_bounds-put-end c = sym (length-take-le _ _ c.make_row-n.ensures.within)
 
 pub returns : goal.returns
-returns c = let s = c in
-    let made = rw (to_z-of_z w64 s.args.start s.ranges.start) at c.make_row-n.ensures.is in
+returns c =
+    let made = rw (to_z-of_z w64 c.args.start c.ranges.start) at c.make_row-n.ensures.is in
     rw (← made) c.put.ensures

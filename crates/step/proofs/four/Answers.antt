@@ -12,13 +12,12 @@ returns-in_default c = stopped kind_4 _ (not_ran _ (c.curves_from.ensures _) c.i
 
 pub returns-then-p_1_deno : goal.returns-then-p_1_deno
 unfolding between_4 stops eval of_bits power_of
-returns-then-p_1_deno c = let found = c in
-    let first = ran (found.curves_from.ensures _) found.in-Found.is in
+returns-then-p_1_deno c =
+    let first = ran (c.curves_from.ensures _) c.in-Found.is in
     stopped_later kind_4 _ first (then _ refl (stop c.if-p_1_deno.true)) ∙ is_4 _ _ _
 
 pub returns : goal.returns
 unfolding between_4 stops eval of_bits power_of
-returns c = let nonzero = c in
-    let found = nonzero in
-    let first = ran (found.curves_from.ensures _) found.in-Found.is in
-    weighs kind_4 _ first _ (then _ refl (pass nonzero.if-p_1_deno.false (then _ refl done))) _ c.weighed.ensures ∙ is_4 _ _ _
+returns c =
+    let first = ran (c.curves_from.ensures _) c.in-Found.is in
+    weighs kind_4 _ first _ (then _ refl (pass c.if-p_1_deno.false (then _ refl done))) _ c.weighed.ensures ∙ is_4 _ _ _

@@ -11,43 +11,43 @@ pub loop-count-init : goal.loop-count-init
 loop-count-init c = (omega arith, begins _ _ _ c.requires, since_now _ _ _ _ _)
 
 pub returns-in_default : goal.returns-in_default
-returns-in_default c = let l = c in
-    let m = l.args.m in
-    let h : l.loop-count.count < m.max_iter = omega arith in
-    turned_away m _ _ _ _ _ _ h (stepped_on _ m.moments _ _ _ _ _ l.first_five-a.ensures c.stepped-s.ensures c.in_default.is) c.with_fit.ensures c.reason.ensures
-    ∙ sym l.loop-count.invariant.1
+returns-in_default c =
+    let m = c.args.m in
+    let h : c.loop-count.count < m.max_iter = omega arith in
+    turned_away m _ _ _ _ _ _ h (stepped_on _ m.moments _ _ _ _ _ c.first_five-a.ensures c.stepped-s.ensures c.in_default.is) c.with_fit.ensures c.reason.ensures
+    ∙ sym c.loop-count.invariant.1
 
 pub fit_after-f-requires : goal.fit_after-f-requires
 fit_after-f-requires c = four_given _ _ c.requires
 
 pub returns-then-abs-m : goal.returns-then-abs-m
-returns-then-abs-m c = let l = c in
-    let m = l.args.m in
-    let h : l.loop-count.count < m.max_iter = omega (arith, c.loop-count-test.true) in
-    let a = l.first_five-a.ensures in
+returns-then-abs-m c =
+    let m = c.args.m in
+    let h : c.loop-count.count < m.max_iter = omega (arith, c.loop-count-test.true) in
+    let a = c.first_five-a.ensures in
     settles m _ _ _ _ _ _ _ _ h (stepped_on _ m.moments _ _ _ _ _ a c.stepped-s.ensures c.in-Admitted.is) (fit_on _ m.moments _ _ _ _ a c.fit_after-f.ensures) (settled_on _ _ _ _ true c.abs.ensures c.if-abs-m.true) c.with_fit-then-abs-m.ensures c.reason-then-abs-m.ensures
-    ∙ sym l.loop-count.invariant.1
+    ∙ sym c.loop-count.invariant.1
 
 pub count_rounds-t-requires : goal.count_rounds-t-requires
-count_rounds-t-requires c = let l = c in
-    (omega (arith, l.loop-count.invariant.2.counted), omega arith)
+count_rounds-t-requires c =
+    (omega (arith, c.loop-count.invariant.2.counted), omega arith)
 
 pub loop-count-smaller : goal.loop-count-smaller
 loop-count-smaller c = omega (arith, onward _ _ _ _ _ _ c.count_rounds-t.ensures)
 
 pub loop-count-preserved : goal.loop-count-preserved
-loop-count-preserved c = let l = c in
-    let m = l.args.m in
-    let h : l.loop-count.count < m.max_iter = omega (arith, c.loop-count-test.true) in
-    let a = l.first_five-a.ensures in
+loop-count-preserved c =
+    let m = c.args.m in
+    let h : c.loop-count.count < m.max_iter = omega (arith, c.loop-count-test.true) in
+    let a = c.first_five-a.ensures in
     let e = stepped_on _ m.moments _ _ _ _ _ a c.stepped-s.ensures c.in-Admitted.is in
     let g = fit_on _ m.moments _ _ _ _ a c.fit_after-f.ensures in
     let s = settled_on _ _ _ _ false c.abs.ensures c.if-abs-m.false in
-    let t = turns m _ _ _ _ _ _ (omega (arith, h)) (omega (arith, l.loop-count.invariant.2.counted)) (since_on m _ _ _ _ _ _ _ l.loop-count.invariant.2 e g s) c.count_rounds-t.ensures in
-    (t.within, l.loop-count.invariant.1 ∙ goes_on m _ _ _ _ _ _ h e g s ∙ t.the_same, t.since)
+    let t = turns m _ _ _ _ _ _ (omega (arith, h)) (omega (arith, c.loop-count.invariant.2.counted)) (since_on m _ _ _ _ _ _ _ c.loop-count.invariant.2 e g s) c.count_rounds-t.ensures in
+    (t.within, c.loop-count.invariant.1 ∙ goes_on m _ _ _ _ _ _ h e g s ∙ t.the_same, t.since)
 
 pub returns : goal.returns
-returns c = let l = c in
-    let m = l.args.m in
-    let h : l.loop-count.count ≡ m.max_iter = omega arith in
-    spent m _ _ _ _ _ h c.with_fit-2.ensures ∙ sym l.loop-count.invariant.1
+returns c =
+    let m = c.args.m in
+    let h : c.loop-count.count ≡ m.max_iter = omega arith in
+    spent m _ _ _ _ _ h c.with_fit-2.ensures ∙ sym c.loop-count.invariant.1

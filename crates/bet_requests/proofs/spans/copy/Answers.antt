@@ -16,17 +16,17 @@ pub loop-i-init : goal.loop-i-init
 loop-i-init c = (omega arith, refl)
 
 pub bounds-y-i : goal.bounds-y-i
-bounds-y-i c = let d = c in
-    omega (arith, long _ _ _ _ d.requires d.loop-i.invariant)
+bounds-y-i c =
+    omega (arith, long _ _ _ _ c.requires c.loop-i.invariant)
 
 pub loop-i-preserved : goal.loop-i-preserved
-loop-i-preserved c = let d = c in
-    let args = d.args in
-    let i = d.loop-i.i in
+loop-i-preserved c =
+    let args = c.args in
+    let i = c.loop-i.i in
     let x = args.x.now in
     let y = args.y.now in
     let z : i ≡ 0 + i = omega arith in
-    (omega arith, ap (λ (l : List Float). set l i (get_or x i nan)) d.loop-i.invariant.1 ∙ ap (λ (j : ℕ). set (paste y 0 x i) j (get_or x i nan)) z ∙ paste-suc y 0 x i nan (omega arith) (omega arith) ∙ ap (paste y 0 x) (sym (add-one i)))
+    (omega arith, ap (λ (l : List Float). set l i (get_or x i nan)) c.loop-i.invariant.1 ∙ ap (λ (j : ℕ). set (paste y 0 x i) j (get_or x i nan)) z ∙ paste-suc y 0 x i nan (omega arith) (omega arith) ∙ ap (paste y 0 x) (sym (add-one i)))
 
 pub shape_of-y : goal.shape_of-y
 shape_of-y c = long _ _ _ _ c.requires c.loop-i.invariant

@@ -9,19 +9,15 @@ pub slice_bounds-bet_size_budget-end-2 : goal.slice_bounds-bet_size_budget-end-2
 slice_bounds-bet_size_budget-end-2 c = sym (length-take-le _ _ (omega arith))
 
 pub returns-in-Unwritten : goal.returns-in-Unwritten
-returns-in-Unwritten c = let q = c in
-    let g = q in
-    let l = g in
-    let args = l.args in (
-      sizes_answer args.room args.from l.least-places.result args.xs.now l.least-places.ensures g.bet_size_budget-r.ensures q.in-Unwritten.is,
-      sizes_left args.room args.from l.least-places.result args.xs.now l.least-places.ensures g.bet_size_budget-r.ensures,
+returns-in-Unwritten c =
+    let args = c.args in (
+      sizes_answer args.room args.from c.least-places.result args.xs.now c.least-places.ensures c.bet_size_budget-r.ensures c.in-Unwritten.is,
+      sizes_left args.room args.from c.least-places.result args.xs.now c.least-places.ensures c.bet_size_budget-r.ensures,
     )
 
 pub returns-in-Written : goal.returns-in-Written
-returns-in-Written c = let q = c in
-    let g = q in
-    let l = g in
-    let args = l.args in (
-      sizes_answer args.room args.from l.least-places.result args.xs.now l.least-places.ensures g.bet_size_budget-r.ensures q.in-Written.is,
-      sizes_left args.room args.from l.least-places.result args.xs.now l.least-places.ensures g.bet_size_budget-r.ensures,
+returns-in-Written c =
+    let args = c.args in (
+      sizes_answer args.room args.from c.least-places.result args.xs.now c.least-places.ensures c.bet_size_budget-r.ensures c.in-Written.is,
+      sizes_left args.room args.from c.least-places.result args.xs.now c.least-places.ensures c.bet_size_budget-r.ensures,
     )

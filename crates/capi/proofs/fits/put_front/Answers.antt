@@ -12,12 +12,11 @@ loop-i-init c = (omega arith, refl, refl)
 
 pub loop-i-preserved : goal.loop-i-preserved
 loop-i-preserved c = let l = c.loop-i in
-    let start = c in
-    let h : l.i < length start.args.rows.now = omega arith in
-    let g : l.i < length start.args.numbers.now = omega arith in (
+    let h : l.i < length c.args.rows.now = omega arith in
+    let g : l.i < length c.args.numbers.now = omega arith in (
       omega arith,
       length-set l.rows l.i _ ∙ l.invariant.1,
-      ap (λ w. set w l.i (get_or start.args.numbers.now l.i nan)) l.invariant.2 ∙ front start.args.numbers.now start.args.rows.now l.i g h,
+      ap (λ w. set w l.i (get_or c.args.numbers.now l.i nan)) l.invariant.2 ∙ front c.args.numbers.now c.args.rows.now l.i g h,
     )
 
 pub shape_of-rows : goal.shape_of-rows

@@ -11,8 +11,6 @@ pub leave_rows-requires : goal.leave_rows-requires
 leave_rows-requires c = roomy _ _ c.args.rows.now _ c.mp_fit_flat-f.ensures
 
 pub returns : goal.returns
-returns c = let left = c in
-    let ran = left in
-    let made = ran in
-    let a = made.args in
-    leaves a.moments.now a.variant a.factor a.max_iter a.n_runs a.weights.now a.fit.now a.rows.now _ _ _ _ _ _ made.state_of-m.ensures ran.mp_fit_flat-f.ensures made.if-fit-lt12.false left.leave_rows.ensures
+returns c =
+    let a = c.args in
+    leaves a.moments.now a.variant a.factor a.max_iter a.n_runs a.weights.now a.fit.now a.rows.now _ _ _ _ _ _ c.state_of-m.ensures c.mp_fit_flat-f.ensures c.if-fit-lt12.false c.leave_rows.ensures

@@ -13,10 +13,6 @@ returns-then-row-lt6 c = let a = c.args in
     (rw e, rw e, rw e, rw e)
 
 pub returns : goal.returns
-returns c = let left = c in
-    let searched = left in
-    let given = searched in
-    let made = given in
-    let wide = made in
-    let a = wide.args in
-    leaves a.moments.now a.variant a.factor a.max_iter a.epsilon_override.now a.weights.now a.fit.now a.row.now _ _ _ _ _ _ _ _ made.state_of-m.ensures given.override_of-e.ensures searched.single_fit_loop-r.ensures wide.if-fit-lt12.false wide.if-row-lt6.false left.leave.ensures
+returns c =
+    let a = c.args in
+    leaves a.moments.now a.variant a.factor a.max_iter a.epsilon_override.now a.weights.now a.fit.now a.row.now _ _ _ _ _ _ _ _ c.state_of-m.ensures c.override_of-e.ensures c.single_fit_loop-r.ensures c.if-fit-lt12.false c.if-row-lt6.false c.leave.ensures

@@ -9,6 +9,5 @@ pub slice_bounds-walk_rows-end : goal.slice_bounds-walk_rows-end
 slice_bounds-walk_rows-end c = sym (length-take-le _ _ (omega arith))
 
 pub returns : goal.returns
-returns c = let w = c in
-    let b = w in
-    plain_is _ _ _ _ _ _ _ _ b.requires b.begin.ensures w.deviation.ensures b.rows_of-n.ensures w.walk_rows-s.ensures c.best_of.ensures
+returns c =
+    plain_is _ _ _ _ _ _ _ _ c.requires c.begin.ensures c.deviation.ensures c.rows_of-n.ensures c.walk_rows-s.ensures c.best_of.ensures

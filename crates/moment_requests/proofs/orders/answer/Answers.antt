@@ -9,32 +9,28 @@ returns-then-begins c = let e = c.begins.ensures in
     (named_yes _ e h c.get_moments.ensures, named_no _ (other_name _ _ _ _ _ e h refl) refl refl)
 
 pub returns-then-begins-2 : goal.returns-then-begins-2
-returns-then-begins-2 c = let d1 = c in
+returns-then-begins-2 c =
     let e = c.begins-2.ensures in
     let h = c.if-begins-2.true in (
-      named_no _ d1.begins.ensures d1.if-begins.false (named_yes _ e h c.centered_moment.ensures),
+      named_no _ c.begins.ensures c.if-begins.false (named_yes _ e h c.centered_moment.ensures),
       named_no _ (other_name _ _ _ _ _ e h refl) refl refl,
     )
 
 pub returns-then-begins-3 : goal.returns-then-begins-3
-returns-then-begins-3 c = let m = c in
-    let d3 = m in
-    let d2 = d3 in
-    let d1 = d2 in
-    let e = d3.begins-3.ensures in
-    let h = d3.if-begins-3.true in (
-      named_no _ d1.begins.ensures d1.if-begins.false
-          (named_no _ d2.begins-2.ensures d2.if-begins-2.false
-          (named_yes _ e h m.raw_moment.ensures.0)),
-      named_yes _ e h m.raw_moment.ensures.1,
+returns-then-begins-3 c =
+    let e = c.begins-3.ensures in
+    let h = c.if-begins-3.true in (
+      named_no _ c.begins.ensures c.if-begins.false
+          (named_no _ c.begins-2.ensures c.if-begins-2.false
+          (named_yes _ e h c.raw_moment.ensures.0)),
+      named_yes _ e h c.raw_moment.ensures.1,
     )
 
 pub returns : goal.returns
-returns c = let d2 = c in
-    let d1 = d2 in
+returns c =
     let e = c.begins-3.ensures in (
-      named_no _ d1.begins.ensures d1.if-begins.false
-          (named_no _ d2.begins-2.ensures d2.if-begins-2.false
+      named_no _ c.begins.ensures c.if-begins.false
+          (named_no _ c.begins-2.ensures c.if-begins-2.false
           (named_no _ e c.if-begins-3.false refl)),
       named_no _ e c.if-begins-3.false refl,
     )

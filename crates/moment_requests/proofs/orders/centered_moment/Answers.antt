@@ -9,18 +9,15 @@ pub returns-in_default : goal.returns-in_default
 returns-in_default c = rw (c.read_next_natural.ensures, c.in_default.is)
 
 pub returns-in_default-read_next_list : goal.returns-in_default-read_next_list
-returns-in_default-read_next_list c = let l = c in
-    let o = l in
-    rw (o.read_next_natural.ensures, o.in-Is.is, no_list next_fraction _ (rw c.in_default-read_next_list.is at l.read_next_list.ensures.0))
+returns-in_default-read_next_list c =
+    rw (c.read_next_natural.ensures, c.in-Is.is, no_list next_fraction _ (rw c.in_default-read_next_list.is at c.read_next_list.ensures.0))
 
 pub returns-then-e-s : goal.returns-then-e-s
-returns-then-e-s c = let n = c in
-    let o = n in
-    rw (o.read_next_natural.ensures, o.in-Is.is, list_got next_fraction _ _ _ (rw n.in-Is-read_next_list.is at n.read_next_list.ensures.0)) (not_ended _ _ _ _ c.if-e-s.true)
+returns-then-e-s c =
+    rw (c.read_next_natural.ensures, c.in-Is.is, list_got next_fraction _ _ _ (rw c.in-Is-read_next_list.is at c.read_next_list.ensures.0)) (not_ended _ _ _ _ c.if-e-s.true)
 
 pub returns : goal.returns
-returns c = let n = c in
-    let l = n.read_next_list.ensures in
-    let is = rw n.in-Is-read_next_list.is at l.0 in
-    let o = n in
-    rw (o.read_next_natural.ensures, o.in-Is.is, list_got next_fraction _ _ _ is, c.centred_reply.ensures, list_front next_fraction _ _ _ is _ _ l.1, centred_cut) (ended _ _ _ _ c.if-e-s.false)
+returns c =
+    let l = c.read_next_list.ensures in
+    let is = rw c.in-Is-read_next_list.is at l.0 in
+    rw (c.read_next_natural.ensures, c.in-Is.is, list_got next_fraction _ _ _ is, c.centred_reply.ensures, list_front next_fraction _ _ _ is _ _ l.1, centred_cut) (ended _ _ _ _ c.if-e-s.false)

@@ -9,9 +9,9 @@ pub slice_bounds-centered_moment-end : goal.slice_bounds-centered_moment-end
 slice_bounds-centered_moment-end c = sym (length-take-le _ _ (omega arith))
 
 pub returns-in-Refused : goal.returns-in-Refused
-returns-in-Refused c = let d = c in
-    rw (← take_least _ _ _ d.least-k.ensures, ← d.centered_moment-r.ensures, c.in-Refused.is)
+returns-in-Refused c =
+    rw (← take_least _ _ _ c.least-k.ensures, ← c.centered_moment-r.ensures, c.in-Refused.is)
 
 pub returns-in-Value : goal.returns-in-Value
-returns-in-Value c = let d = c in
-    rw (← take_least _ _ _ d.least-k.ensures, ← d.centered_moment-r.ensures, c.in-Value.is)
+returns-in-Value c =
+    rw (← take_least _ _ _ c.least-k.ensures, ← c.centered_moment-r.ensures, c.in-Value.is)

@@ -11,42 +11,34 @@ returns-in_default c = let room = rw c.in_default.is at c.read_next_natural.ensu
 
 pub returns-in_default-read_next_fraction : goal.returns-in_default-read_next_fraction
 returns-in_default-read_next_fraction c = let mean = rw c.in_default-read_next_fraction.is at c.read_next_fraction.ensures in
-    let r = c in
-    let room = rw r.in-Is.is at r.read_next_natural.ensures in
+    let room = rw c.in-Is.is at c.read_next_natural.ensures in
     (rw (room, mean), rw (room, mean))
 
 pub returns-in_default-read_next_list : goal.returns-in_default-read_next_list
-returns-in_default-read_next_list c = let l = c in
-    let m = l in
-    let r = m in
-    let room = rw r.in-Is.is at r.read_next_natural.ensures in
-    let mean = rw m.in-Is-read_next_fraction.is at m.read_next_fraction.ensures in
-    let read = no_list next_fraction _ (rw c.in_default-read_next_list.is at l.read_next_list.ensures.0) in
+returns-in_default-read_next_list c =
+    let room = rw c.in-Is.is at c.read_next_natural.ensures in
+    let mean = rw c.in-Is-read_next_fraction.is at c.read_next_fraction.ensures in
+    let read = no_list next_fraction _ (rw c.in_default-read_next_list.is at c.read_next_list.ensures.0) in
     (rw (room, mean, read), rw (room, mean, read))
 
 pub returns-then-e-s : goal.returns-then-e-s
-returns-then-e-s c = let n = c in
-    let m = n in
-    let r = m in
-    let room = rw r.in-Is.is at r.read_next_natural.ensures in
-    let mean = rw m.in-Is-read_next_fraction.is at m.read_next_fraction.ensures in
-    let l = n.read_next_list.ensures in
-    let is = rw n.in-Is-read_next_list.is at l.0 in
+returns-then-e-s c =
+    let room = rw c.in-Is.is at c.read_next_natural.ensures in
+    let mean = rw c.in-Is-read_next_fraction.is at c.read_next_fraction.ensures in
+    let l = c.read_next_list.ensures in
+    let is = rw c.in-Is-read_next_list.is at l.0 in
     let read = list_got next_fraction _ _ _ is in
     (rw (room, mean, read) (not_ended _ _ _ _ c.if-e-s.true), rw (room, mean, read) (not_ended _ _ _ _ c.if-e-s.true))
 
 pub returns : goal.returns
-returns c = let a = c in
-    let n = a in
-    let m = n in
-    let r = m in
-    let room = rw r.in-Is.is at r.read_next_natural.ensures in
-    let mean = rw m.in-Is-read_next_fraction.is at m.read_next_fraction.ensures in
-    let l = n.read_next_list.ensures in
-    let is = rw n.in-Is-read_next_list.is at l.0 in
+returns c =
+    let room = rw c.in-Is.is at c.read_next_natural.ensures in
+    let mean = rw c.in-Is-read_next_fraction.is at c.read_next_fraction.ensures in
+    let l = c.read_next_list.ensures in
+    let is = rw c.in-Is-read_next_list.is at l.0 in
     let read = list_got next_fraction _ _ _ is in
     let kept = list_front next_fraction _ _ _ is _ _ l.1 in
-    let end = a.if-e-s.false in (
-      rw (room, mean, read, a.raw_reply.ensures.0, kept, raw_cut) (ended _ _ _ _ end),
-      rw (room, mean, read, a.raw_reply.ensures.1, kept, out_cut) (ended _ _ _ _ end),
+    let end = c.if-e-s.false in (
+      rw (room, mean, read, c.raw_reply.ensures.0, kept, raw_cut) (ended _ _ _ _ end),
+      rw (room, mean, read, c.raw_reply.ensures.1, kept, out_cut) (ended _ _ _ _ end),
     )

@@ -12,15 +12,13 @@ pub slice_bounds-raw_moment-end-3 : goal.slice_bounds-raw_moment-end-3
 slice_bounds-raw_moment-end-3 c = sym (length-take-le _ _ (omega arith))
 
 pub returns-in-Unwritten : goal.returns-in-Unwritten
-returns-in-Unwritten c = let d = c in
-    let l = d in (
-      rw (← take_least _ _ _ l.least-k.ensures, ← take_least _ _ _ l.least-places.ensures, ← d.raw_moment-r.ensures.0, c.in-Unwritten.is),
-      rw (← take_least _ _ _ l.least-k.ensures, ← take_least _ _ _ l.least-places.ensures, ← drop_least _ _ _ l.least-places.ensures, ← d.raw_moment-r.ensures.1),
-    )
+returns-in-Unwritten c = (
+  rw (← take_least _ _ _ c.least-k.ensures, ← take_least _ _ _ c.least-places.ensures, ← c.raw_moment-r.ensures.0, c.in-Unwritten.is),
+  rw (← take_least _ _ _ c.least-k.ensures, ← take_least _ _ _ c.least-places.ensures, ← drop_least _ _ _ c.least-places.ensures, ← c.raw_moment-r.ensures.1),
+)
 
 pub returns-in-Written : goal.returns-in-Written
-returns-in-Written c = let d = c in
-    let l = d in (
-      rw (← take_least _ _ _ l.least-k.ensures, ← take_least _ _ _ l.least-places.ensures, ← d.raw_moment-r.ensures.0, c.in-Written.is),
-      rw (← take_least _ _ _ l.least-k.ensures, ← take_least _ _ _ l.least-places.ensures, ← drop_least _ _ _ l.least-places.ensures, ← d.raw_moment-r.ensures.1),
-    )
+returns-in-Written c = (
+  rw (← take_least _ _ _ c.least-k.ensures, ← take_least _ _ _ c.least-places.ensures, ← c.raw_moment-r.ensures.0, c.in-Written.is),
+  rw (← take_least _ _ _ c.least-k.ensures, ← take_least _ _ _ c.least-places.ensures, ← drop_least _ _ _ c.least-places.ensures, ← c.raw_moment-r.ensures.1),
+)

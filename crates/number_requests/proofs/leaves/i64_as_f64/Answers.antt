@@ -9,9 +9,9 @@ pub returns-in_default : goal.returns-in_default
 returns-in_default c = rw (c.read_next_instant.ensures, c.in_default.is)
 
 pub returns-then-k-s : goal.returns-then-k-s
-returns-then-k-s c = let d = c in
-    rw (d.read_next_instant.ensures, d.in-Is.is) (not_ended _ _ _ _ c.if-k-s.true)
+returns-then-k-s c =
+    rw (c.read_next_instant.ensures, c.in-Is.is) (not_ended _ _ _ _ c.if-k-s.true)
 
 pub returns : goal.returns
-returns c = let d = c in
-    rw (d.read_next_instant.ensures, d.in-Is.is, c.i64_as_f64.ensures, to_z-of_z w64 d.in-Is.n (search rules)) (ended _ _ _ _ c.if-k-s.false)
+returns c =
+    rw (c.read_next_instant.ensures, c.in-Is.is, c.i64_as_f64.ensures, to_z-of_z w64 c.in-Is.n (search rules)) (ended _ _ _ _ c.if-k-s.false)

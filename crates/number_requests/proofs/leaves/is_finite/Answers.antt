@@ -10,9 +10,9 @@ pub returns-then-not-read_rest : goal.returns-then-not-read_rest
 returns-then-not-read_rest c = rest_no 1 _ _ _ c.read_rest.ensures.0 (ap not c.if-not-read_rest.true)
 
 pub returns-then-is_finite : goal.returns-then-is_finite
-returns-then-is_finite c = let d = c in
-    ap {A = ℕ} Natural (named_yes 0 c.is_finite.ensures c.if-is_finite.true refl) ∙ rest_yes 1 _ _ _ _ d.read_rest.ensures (ap not d.if-not-read_rest.false)
+returns-then-is_finite c =
+    ap {A = ℕ} Natural (named_yes 0 c.is_finite.ensures c.if-is_finite.true refl) ∙ rest_yes 1 _ _ _ _ c.read_rest.ensures (ap not c.if-not-read_rest.false)
 
 pub returns : goal.returns
-returns c = let d = c in
-    ap {A = ℕ} Natural (named_no 1 c.is_finite.ensures c.if-is_finite.false refl) ∙ rest_yes 1 _ _ _ _ d.read_rest.ensures (ap not d.if-not-read_rest.false)
+returns c =
+    ap {A = ℕ} Natural (named_no 1 c.is_finite.ensures c.if-is_finite.false refl) ∙ rest_yes 1 _ _ _ _ c.read_rest.ensures (ap not c.if-not-read_rest.false)

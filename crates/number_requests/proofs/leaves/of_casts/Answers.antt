@@ -7,31 +7,26 @@ pub returns-then-begins : goal.returns-then-begins
 returns-then-begins c = named_yes _ c.begins.ensures c.if-begins.true c.is_finite.ensures
 
 pub returns-then-begins-2 : goal.returns-then-begins-2
-returns-then-begins-2 c = let d1 = c in
-    named_no _ d1.begins.ensures d1.if-begins.false
+returns-then-begins-2 c =
+    named_no _ c.begins.ensures c.if-begins.false
     (named_yes _ c.begins-2.ensures c.if-begins-2.true c.as_i64.ensures)
 
 pub returns-then-begins-3 : goal.returns-then-begins-3
-returns-then-begins-3 c = let d2 = c in
-    let d1 = d2 in
-    named_no _ d1.begins.ensures d1.if-begins.false
-    (named_no _ d2.begins-2.ensures d2.if-begins-2.false
+returns-then-begins-3 c =
+    named_no _ c.begins.ensures c.if-begins.false
+    (named_no _ c.begins-2.ensures c.if-begins-2.false
     (named_yes _ c.begins-3.ensures c.if-begins-3.true c.as_usize.ensures))
 
 pub returns-then-begins-4 : goal.returns-then-begins-4
-returns-then-begins-4 c = let d3 = c in
-    let d2 = d3 in
-    let d1 = d2 in
-    named_no _ d1.begins.ensures d1.if-begins.false
-    (named_no _ d2.begins-2.ensures d2.if-begins-2.false
-    (named_no _ d3.begins-3.ensures d3.if-begins-3.false
+returns-then-begins-4 c =
+    named_no _ c.begins.ensures c.if-begins.false
+    (named_no _ c.begins-2.ensures c.if-begins-2.false
+    (named_no _ c.begins-3.ensures c.if-begins-3.false
     (named_yes _ c.begins-4.ensures c.if-begins-4.true c.i64_as_f64.ensures)))
 
 pub returns : goal.returns
-returns c = let d3 = c in
-    let d2 = d3 in
-    let d1 = d2 in
-    named_no _ d1.begins.ensures d1.if-begins.false
-    (named_no _ d2.begins-2.ensures d2.if-begins-2.false
-    (named_no _ d3.begins-3.ensures d3.if-begins-3.false
+returns c =
+    named_no _ c.begins.ensures c.if-begins.false
+    (named_no _ c.begins-2.ensures c.if-begins-2.false
+    (named_no _ c.begins-3.ensures c.if-begins-3.false
     (named_no _ c.begins-4.ensures c.if-begins-4.false refl)))

@@ -6,15 +6,13 @@ pub returns-in_default : goal.returns-in_default
 returns-in_default c = rw (c.read_next_fraction.ensures, c.in_default.is)
 
 pub returns-in_default-read_next_natural : goal.returns-in_default-read_next_natural
-returns-in_default-read_next_natural c = let d = c in
-    rw (d.read_next_fraction.ensures, d.in-Is.is, c.read_next_natural.ensures, c.in_default-read_next_natural.is)
+returns-in_default-read_next_natural c =
+    rw (c.read_next_fraction.ensures, c.in-Is.is, c.read_next_natural.ensures, c.in_default-read_next_natural.is)
 
 pub returns-then-e-s : goal.returns-then-e-s
-returns-then-e-s c = let n = c in
-    let x = n in
-    rw (x.read_next_fraction.ensures, x.in-Is.is, n.read_next_natural.ensures, n.in-Is-read_next_natural.is) (not_ended _ _ _ _ c.if-e-s.true)
+returns-then-e-s c =
+    rw (c.read_next_fraction.ensures, c.in-Is.is, c.read_next_natural.ensures, c.in-Is-read_next_natural.is) (not_ended _ _ _ _ c.if-e-s.true)
 
 pub returns : goal.returns
-returns c = let n = c in
-    let x = n in
-    rw (x.read_next_fraction.ensures, x.in-Is.is, n.read_next_natural.ensures, n.in-Is-read_next_natural.is, c.powi.ensures) (ended _ _ _ _ c.if-e-s.false)
+returns c =
+    rw (c.read_next_fraction.ensures, c.in-Is.is, c.read_next_natural.ensures, c.in-Is-read_next_natural.is, c.powi.ensures) (ended _ _ _ _ c.if-e-s.false)

@@ -7,5 +7,5 @@ pub returns-then-not-read_rest : goal.returns-then-not-read_rest
 returns-then-not-read_rest c = rest_no 5 _ _ _ c.read_rest.ensures.0 (ap not c.if-not-read_rest.true)
 
 pub returns : goal.returns
-returns c = let d = c in
-    rw (c.limit_reply.ensures, c.limit_price_sigmoid.ensures) (rest_yes 5 _ _ _ _ d.read_rest.ensures (ap not d.if-not-read_rest.false))
+returns c =
+    rw (c.limit_reply.ensures, c.limit_price_sigmoid.ensures) (rest_yes 5 _ _ _ _ c.read_rest.ensures (ap not c.if-not-read_rest.false))

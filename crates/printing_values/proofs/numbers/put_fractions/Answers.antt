@@ -8,9 +8,8 @@ pub loop-i-init : goal.loop-i-init
 loop-i-init c = left_all
 
 pub loop-i-preserved : goal.loop-i-preserved
-loop-i-preserved c = let l = c in
-    let s = c in
-    left_fraction s.args.xs.now l.loop-i.i (omega arith) l.loop-i.invariant c.put-k.ensures c.bits_of.ensures c.put_hex-k.ensures
+loop-i-preserved c =
+    left_fraction c.args.xs.now c.loop-i.i (omega arith) c.loop-i.invariant c.put-k.ensures c.bits_of.ensures c.put_hex-k.ensures
 
 pub shape_of-out : goal.shape_of-out
 shape_of-out c = c.loop-i.invariant.same

@@ -5,5 +5,5 @@ use Rattle.printing_values.proofs.Putting.{puts_first, puts_one}
 use Rattle.printing_values.proofs.numbers.put_instant.Goals as goal
 
 pub returns : goal.returns
-returns c = let s = c in
-    puts_first c.put-k.ensures (puts_one (rw (to_z-of_z w64 s.args.i s.ranges.i) at c.put_instant.ensures))
+returns c =
+    puts_first c.put-k.ensures (puts_one (rw (to_z-of_z w64 c.args.i c.ranges.i) at c.put_instant.ensures))

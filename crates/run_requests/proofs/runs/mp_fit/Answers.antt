@@ -12,15 +12,11 @@ returns-in_default c = rw (c.read_next_natural.ensures, c.in_default.is) (refl, 
 
 pub returns-in_default-read_next_list : goal.returns-in_default-read_next_list
 unfolding asked
-returns-in_default-read_next_list c = let l = c in
-    let v = l in
-    rw (v.read_next_natural.ensures, v.in-Is.is, no_list next_fraction _ (rw c.in_default-read_next_list.is at l.read_next_list.ensures.0)) (refl, refl)
+returns-in_default-read_next_list c =
+    rw (c.read_next_natural.ensures, c.in-Is.is, no_list next_fraction _ (rw c.in_default-read_next_list.is at c.read_next_list.ensures.0)) (refl, refl)
 
 pub returns : goal.returns
 unfolding of_bits asked
-returns c = let g = c in
-    let n = g in
-    let l = n in
-    let v = l in
-    let e = rw n.in-Is-read_next_list.is at l.read_next_list.ensures.0 in
-    rw (v.read_next_natural.ensures, v.in-Is.is, list_got next_fraction _ _ _ e, list_long next_fraction _ _ _ e, ← l.read_next_list.ensures.1) g.mp_fit_from.ensures
+returns c =
+    let e = rw c.in-Is-read_next_list.is at c.read_next_list.ensures.0 in
+    rw (c.read_next_natural.ensures, c.in-Is.is, list_got next_fraction _ _ _ e, list_long next_fraction _ _ _ e, ← c.read_next_list.ensures.1) c.mp_fit_from.ensures

@@ -9,12 +9,10 @@ returns-in_default c = rw (c.read_settings.ensures, c.in_default.is) (refl, refl
 
 pub returns-in_default-read_next_state : goal.returns-in_default-read_next_state
 unfolding asked_from
-returns-in_default-read_next_state c = let t = c in
-    rw (t.read_settings.ensures, t.in-Are.is, c.read_next_state.ensures, c.in_default-read_next_state.is) (refl, refl)
+returns-in_default-read_next_state c =
+    rw (c.read_settings.ensures, c.in-Are.is, c.read_next_state.ensures, c.in_default-read_next_state.is) (refl, refl)
 
 pub returns : goal.returns
 unfolding asked_from
-returns c = let g = c in
-    let x = g in
-    let t = x in
-    rw (t.read_settings.ensures, t.in-Are.is, x.read_next_state.ensures, x.in-Is.is) g.weights_from.ensures
+returns c =
+    rw (c.read_settings.ensures, c.in-Are.is, c.read_next_state.ensures, c.in-Is.is) c.weights_from.ensures

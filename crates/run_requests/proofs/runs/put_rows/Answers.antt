@@ -9,22 +9,22 @@ pub loop-i-init : goal.loop-i-init
 loop-i-init c = (omega arith, none_put c.args.rows c.args.xs.now)
 
 pub put_row-requires : goal.put_row-requires
-put_row-requires c = let l = c in
-    let args = l.args in
-    rw l.loop-i.invariant.1 (omega (arith, rows_long args.rows args.xs.now l.loop-i.i (omega arith) (omega arith)))
+put_row-requires c =
+    let args = c.args in
+    rw c.loop-i.invariant.1 (omega (arith, rows_long args.rows args.xs.now c.loop-i.i (omega arith) (omega arith)))
 
 pub loop-i-preserved : goal.loop-i-preserved
-loop-i-preserved c = let l = c in
-    let args = l.args in
-    (omega arith, c.put_row.ensures ∙ rw l.loop-i.invariant.1 (row_put args.rows args.xs.now l.loop-i.i _ (omega arith) (omega arith)))
+loop-i-preserved c =
+    let args = c.args in
+    (omega arith, c.put_row.ensures ∙ rw c.loop-i.invariant.1 (row_put args.rows args.xs.now c.loop-i.i _ (omega arith) (omega arith)))
 
 pub shape_of-xs : goal.shape_of-xs
-shape_of-xs c = let l = c in
-    let args = l.args in
-    ap length l.loop-i.invariant.1 ∙ rows_long args.rows args.xs.now l.loop-i.i (omega arith) (omega arith)
+shape_of-xs c =
+    let args = c.args in
+    ap length c.loop-i.invariant.1 ∙ rows_long args.rows args.xs.now c.loop-i.i (omega arith) (omega arith)
 
 pub returns : goal.returns
-returns c = let l = c in
-    let args = l.args in
-    let all : l.loop-i.i ≡ args.n = omega arith in
-    l.loop-i.invariant.1 ∙ rw all
+returns c =
+    let args = c.args in
+    let all : c.loop-i.i ≡ args.n = omega arith in
+    c.loop-i.invariant.1 ∙ rw all

@@ -11,16 +11,15 @@ use Rattle.run_requests.proofs.runs.weights_from.Goals as goal
 
 pub returns-in_default : goal.returns-in_default
 unfolding weights_from
-returns-in_default c = let l = c in
-    let args = l.args in
-    rw (values_no next_fraction args.s.now args.at l.read_next_list.ensures.0 c.in_default.is) (refl, refl)
+returns-in_default c =
+    let args = c.args in
+    rw (values_no next_fraction args.s.now args.at c.read_next_list.ensures.0 c.in_default.is) (refl, refl)
 
 pub returns-then-e-s : goal.returns-then-e-s
 unfolding weights_from
-returns-then-e-s c = let n = c in
-    let l = n in
-    let args = l.args in
-    rw (values_got next_fraction args.s.now args.at l.read_next_list.ensures.0 n.in-Is.is)
+returns-then-e-s c =
+    let args = c.args in
+    rw (values_got next_fraction args.s.now args.at c.read_next_list.ensures.0 c.in-Is.is)
     (not_ended _ _ args.s.now _ c.if-e-s.true, not_ended _ _ args.s.now _ c.if-e-s.true)
 
 pub slice_bounds-fill-end : goal.slice_bounds-fill-end
@@ -28,15 +27,10 @@ slice_bounds-fill-end c = sym (length-take-le _ _ (omega arith))
 
 pub returns : goal.returns
 unfolding weights_from
-returns c = let f = c in
-    let k = f in
-    let end = k in
-    let n = end in
-    let w = n in
-    let l = w in
-    let args = l.args in
+returns c =
+    let args = c.args in
     rw (
-      values_got next_fraction args.s.now args.at l.read_next_list.ensures.0 n.in-Is.is,
-      ← (values_first next_fraction args.s.now args.at l.fractions_room-w.result l.read_next_list.ensures n.in-Is.is (search rules) k.least-k.ensures),
+      values_got next_fraction args.s.now args.at c.read_next_list.ensures.0 c.in-Is.is,
+      ← (values_first next_fraction args.s.now args.at c.fractions_room-w.result c.read_next_list.ensures c.in-Is.is (search rules) c.least-k.ensures),
     )
-    (f.fill.ensures.0 ∙ ended _ _ args.s.now _ end.if-e-s.false, f.fill.ensures.1 ∙ ended _ _ args.s.now _ end.if-e-s.false)
+    (c.fill.ensures.0 ∙ ended _ _ args.s.now _ c.if-e-s.false, c.fill.ensures.1 ∙ ended _ _ args.s.now _ c.if-e-s.false)

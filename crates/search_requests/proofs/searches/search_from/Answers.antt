@@ -5,31 +5,21 @@ pub returns-in_default : goal.returns-in_default
 returns-in_default c = rw (c.read_next_fraction.ensures, c.in_default.is)
 
 pub returns-in_default-read_given : goal.returns-in_default-read_given
-returns-in_default-read_given c = let x = c in
-    rw (x.read_next_fraction.ensures, x.in-Is.is, c.read_given.ensures, c.in_default-read_given.is)
+returns-in_default-read_given c =
+    rw (c.read_next_fraction.ensures, c.in-Is.is, c.read_given.ensures, c.in_default-read_given.is)
 
 pub returns-in_default-read_next_fraction : goal.returns-in_default-read_next_fraction
-returns-in_default-read_next_fraction c = let g = c in
-    let x = g in
-    rw (x.read_next_fraction.ensures, x.in-Is.is, g.read_given.ensures, g.in-Is-read_given.is, c.read_next_fraction-2.ensures, c.in_default-read_next_fraction.is)
+returns-in_default-read_next_fraction c =
+    rw (c.read_next_fraction.ensures, c.in-Is.is, c.read_given.ensures, c.in-Is-read_given.is, c.read_next_fraction-2.ensures, c.in_default-read_next_fraction.is)
 
 pub returns-in_default-read_next_natural : goal.returns-in_default-read_next_natural
-returns-in_default-read_next_natural c = let f = c in
-    let g = f in
-    let x = g in
-    rw (x.read_next_fraction.ensures, x.in-Is.is, g.read_given.ensures, g.in-Is-read_given.is, f.read_next_fraction-2.ensures, f.in-Is-read_next_fraction.is, c.read_next_natural.ensures, c.in_default-read_next_natural.is)
+returns-in_default-read_next_natural c =
+    rw (c.read_next_fraction.ensures, c.in-Is.is, c.read_given.ensures, c.in-Is-read_given.is, c.read_next_fraction-2.ensures, c.in-Is-read_next_fraction.is, c.read_next_natural.ensures, c.in_default-read_next_natural.is)
 
 pub returns-in_default-read_next_state : goal.returns-in_default-read_next_state
-returns-in_default-read_next_state c = let k = c in
-    let f = k in
-    let g = f in
-    let x = g in
-    rw (x.read_next_fraction.ensures, x.in-Is.is, g.read_given.ensures, g.in-Is-read_given.is, f.read_next_fraction-2.ensures, f.in-Is-read_next_fraction.is, k.read_next_natural.ensures, k.in-Is-read_next_natural.is, c.read_next_state.ensures, c.in_default-read_next_state.is)
+returns-in_default-read_next_state c =
+    rw (c.read_next_fraction.ensures, c.in-Is.is, c.read_given.ensures, c.in-Is-read_given.is, c.read_next_fraction-2.ensures, c.in-Is-read_next_fraction.is, c.read_next_natural.ensures, c.in-Is-read_next_natural.is, c.read_next_state.ensures, c.in_default-read_next_state.is)
 
 pub returns : goal.returns
-returns c = let z = c in
-    let k = z in
-    let f = k in
-    let g = f in
-    let x = g in
-    rw (x.read_next_fraction.ensures, x.in-Is.is, g.read_given.ensures, g.in-Is-read_given.is, f.read_next_fraction-2.ensures, f.in-Is-read_next_fraction.is, k.read_next_natural.ensures, k.in-Is-read_next_natural.is, z.read_next_state.ensures, z.in-Is-read_next_state.is, c.weights_from.ensures)
+returns c =
+    rw (c.read_next_fraction.ensures, c.in-Is.is, c.read_given.ensures, c.in-Is-read_given.is, c.read_next_fraction-2.ensures, c.in-Is-read_next_fraction.is, c.read_next_natural.ensures, c.in-Is-read_next_natural.is, c.read_next_state.ensures, c.in-Is-read_next_state.is, c.weights_from.ensures)

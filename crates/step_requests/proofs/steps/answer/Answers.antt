@@ -7,11 +7,11 @@ pub returns-then-begins : goal.returns-then-begins
 returns-then-begins c = named_yes _ c.begins.ensures c.if-begins.true c.one_step.ensures
 
 pub returns-then-begins-2 : goal.returns-then-begins-2
-returns-then-begins-2 c = let d = c in
-    named_no _ d.begins.ensures d.if-begins.false
+returns-then-begins-2 c =
+    named_no _ c.begins.ensures c.if-begins.false
     (named_yes _ c.begins-2.ensures c.if-begins-2.true c.one_step-then-begins-2.ensures)
 
 pub returns : goal.returns
-returns c = let d = c in
-    named_no _ d.begins.ensures d.if-begins.false
+returns c =
+    named_no _ c.begins.ensures c.if-begins.false
     (named_no _ c.begins-2.ensures c.if-begins-2.false refl)

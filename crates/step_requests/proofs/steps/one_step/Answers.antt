@@ -9,7 +9,6 @@ pub returns-in_default : goal.returns-in_default
 returns-in_default c = rw (no_list next_fraction _ (rw c.in_default.is at c.read_next_list.ensures.0))
 
 pub returns : goal.returns
-returns c = let n = c in
-    let l = n in
-    let a = l.args in
-    a_step a.reads (drop a.at a.s.now) _ _ _ _ (rw n.in-Is.is at l.read_next_list.ensures.0) l.read_next_list.ensures.1 c.step_from.ensures
+returns c =
+    let a = c.args in
+    a_step a.reads (drop a.at a.s.now) _ _ _ _ (rw c.in-Is.is at c.read_next_list.ensures.0) c.read_next_list.ensures.1 c.step_from.ensures

@@ -5,5 +5,5 @@ pub returns-in-Refused : goal.returns-in-Refused
 returns-in-Refused c = rw c.in-Refused.is
 
 pub returns-in-Admitted : goal.returns-in-Admitted
-returns-in-Admitted c = let t = c in
-    rw (t.in-Stepped.is, t.in-Admitted.is)
+returns-in-Admitted c =
+    rw (c.in-Stepped.is, c.in-Admitted.is)

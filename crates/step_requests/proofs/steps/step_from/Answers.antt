@@ -6,15 +6,13 @@ pub returns-in_default : goal.returns-in_default
 returns-in_default c = rw (c.read_next_fraction.ensures, c.in_default.is)
 
 pub returns-in_default-read_next_fraction : goal.returns-in_default-read_next_fraction
-returns-in_default-read_next_fraction c = let x = c in
-    rw (x.read_next_fraction.ensures, x.in-Is.is, c.read_next_fraction-2.ensures, c.in_default-read_next_fraction.is)
+returns-in_default-read_next_fraction c =
+    rw (c.read_next_fraction.ensures, c.in-Is.is, c.read_next_fraction-2.ensures, c.in_default-read_next_fraction.is)
 
 pub returns-then-e-s : goal.returns-then-e-s
-returns-then-e-s c = let p = c in
-    let x = p in
-    rw (x.read_next_fraction.ensures, x.in-Is.is, p.read_next_fraction-2.ensures, p.in-Is-read_next_fraction.is) (not_ended _ _ _ _ c.if-e-s.true)
+returns-then-e-s c =
+    rw (c.read_next_fraction.ensures, c.in-Is.is, c.read_next_fraction-2.ensures, c.in-Is-read_next_fraction.is) (not_ended _ _ _ _ c.if-e-s.true)
 
 pub returns : goal.returns
-returns c = let p = c in
-    let x = p in
-    rw (x.read_next_fraction.ensures, x.in-Is.is, p.read_next_fraction-2.ensures, p.in-Is-read_next_fraction.is, c.reply.ensures, c.stepped.ensures) (ended _ _ _ _ c.if-e-s.false)
+returns c =
+    rw (c.read_next_fraction.ensures, c.in-Is.is, c.read_next_fraction-2.ensures, c.in-Is-read_next_fraction.is, c.reply.ensures, c.stepped.ensures) (ended _ _ _ _ c.if-e-s.false)

@@ -16,5 +16,5 @@ pub slice_bounds-iter_5-end : goal.slice_bounds-iter_5-end
 slice_bounds-iter_5-end c = sym (length-take-le _ _ (omega arith))
 
 pub returns : goal.returns
-returns c = let d = c in
-    rw (ne_eqb _ _ d.if-reads-eq4.false, c.iter_5.ensures, take_least _ _ _ d.least-k.ensures)
+returns c =
+    rw (ne_eqb _ _ c.if-reads-eq4.false, c.iter_5.ensures, take_least _ _ _ c.least-k.ensures)
