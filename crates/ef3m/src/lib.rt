@@ -61,7 +61,7 @@ fn through(f: Fitter, e: Epsilon, weights: &[f64]) -> Searched
     }
 }
 
-// The method by value, for callers that are to be proved without a walk by hand.
+// The method by value, for callers that have a state and no Fitter.
 pub fn single_fit_through(m: M2N, e: Epsilon, weights: &[f64]) -> Fitted
     ensures { result ≡ single_fit m e weights.now }
 {

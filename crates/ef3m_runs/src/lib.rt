@@ -54,7 +54,7 @@ pub struct Runs {
     pub outcome: Filled,
 }
 
-// Lends 64 rows to mp_fit, for callers that are to be proved without a walk by hand.
+// mp_fit by value: it is lent the 64 rows, and what it left in them is handed back.
 pub fn mp_fit_through(m: M2N, weights: &[f64], rows: [FitResultRow; 64]) -> Runs
     ensures { (result.outcome ≡ mp_fit m weights.now 64) × (result.rows ≡ mp_rows m weights.now rows) }
 {
