@@ -1,15 +1,13 @@
 -- Document 01's starred figures as one table, in its order and under its words, and the statement that every one of them holds.
 -- A row's left side is the definition that the contract of the function names, on the figure's arguments. So a row is a fact about
 -- the code: `iter_4` ensures r ≡ iter4 .., and answers what stands on the right of the rows of iter4.
-use Rattle.std.specs.Prelude.{◌≡◌, refl, true, false, List, [], ◌∷◌, ℕ, ◌+◌, ◌*◌, Float, replicate}
+use Rattle.std.specs.Prelude.{◌≡◌, refl, true, false, List, [], ◌∷◌, ℕ, ◌+◌, ◌*◌, Float, replicate, Ok}
 use Rattle.std.specs.Float.{nan, inf, binary64}
 use Rattle.std.specs.Float.Ieee.{round, of_bits}
 use Rattle.moments.specs.Mixture.{get_moments}
 use Rattle.moments.specs.Refusals.{centred_moment, raw_moment, raw_out}
-use Rattle.moments.specs.declared.Centred.TheVariants.{Value}
 use Rattle.moments.specs.declared.Five.{Five}
 use Rattle.moments.specs.declared.Params.{Params}
-use Rattle.moments.specs.declared.Remade.TheVariants.{Written}
 use Rattle.prices.specs.Prices.{get_w_sigmoid, inv_price_sigmoid}
 use Rattle.limit_price.specs.LimitPrice.{limit_price_sigmoid}
 use Rattle.limit_price.specs.declared.Limit.{Limit}
@@ -73,14 +71,14 @@ table =
     -- Of (0, 2, 1, 2, 0.5): M = 1, 4.5, 16, 81.5, 416.
     ∷ get_moments (params (0 · 0, 2 · 0, 1 · 0, 2 · 0, 0 · 5)) ⇒ five M
     -- Centred 2, 3, 4, 5 of (2, 5, 14, 41, 122): 1, 0, 1, 0.
-    ∷ centred_moment two_five 2 ⇒ Value (1 · 0)
-    ∷ centred_moment two_five 3 ⇒ Value (0 · 0)
-    ∷ centred_moment two_five 4 ⇒ Value (1 · 0)
-    ∷ centred_moment two_five 5 ⇒ Value (0 · 0)
+    ∷ centred_moment two_five 2 ⇒ Ok (1 · 0)
+    ∷ centred_moment two_five 3 ⇒ Ok (0 · 0)
+    ∷ centred_moment two_five 4 ⇒ Ok (1 · 0)
+    ∷ centred_moment two_five 5 ⇒ Ok (0 · 0)
     -- `raw_moment` of (0, 1, 0, 1, 0), mean 2: 2, 5, 14, 41, 122. Of none, mean 2: 2. (How many it writes, and the lent list after it.)
-    ∷ raw_moment (listed (0 · 0, 1 · 0, 0 · 0, 1 · 0, 0 · 0)) (replicate 5 nan) ⇒ Written 5
+    ∷ raw_moment (listed (0 · 0, 1 · 0, 0 · 0, 1 · 0, 0 · 0)) (replicate 5 nan) ⇒ Ok 5
     ∷ raw_out (listed (0 · 0, 1 · 0, 0 · 0, 1 · 0, 0 · 0)) (2 · 0) (replicate 5 nan) ⇒ two_five
-    ∷ raw_moment [] (nan ∷ []) ⇒ Written 1
+    ∷ raw_moment [] (nan ∷ []) ⇒ Ok 1
     ∷ raw_out [] (2 · 0) (nan ∷ []) ⇒ (2 · 0 ∷ [])
     -- `iter_4` and `iter_5` on M from mean 2, weight 0.5: (0, 2, 1, 2, 0.5).
     ∷ iter4 (listed M) (2 · 0) (0 · 5) ⇒ Stepped (Admitted (params (0 · 0, 2 · 0, 1 · 0, 2 · 0, 0 · 5)))

@@ -6,7 +6,7 @@ ghost use Rattle.walk.specs.Walk.{error_of};
 ghost use Rattle.grid.specs.Rows.{all_zero, begun, centred_state, moved, moved_best, moved_state, params_of, row_of, sum_of_squares, with_best, zeros};
 
 use crate::{Best, FitResultRow};
-use moments::{Centred, Params};
+use moments::Params;
 use walk::M2N;
 
 pub(crate) fn row_of(p: Params, error: f64) -> FitResultRow
@@ -97,8 +97,8 @@ pub(crate) fn centred(m: M2N, order: usize) -> f64
     let a = m.moments;
     let c = moments::centered_moment(&a, order);
     match c {
-        Centred::Value(x) => x,
-        Centred::Refused(_) => 0.0,
+        Ok(x) => x,
+        Err(_) => 0.0,
     }
 }
 
