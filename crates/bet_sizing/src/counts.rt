@@ -1,12 +1,13 @@
 // How many spans of each side are live at each span's start: starts up to then less ends up to
 // then, each found by its rank in a sorted list.
-ghost use Rattle.std.specs.Prelude.{◌≡◌, ◌&&◌, ◌-◌};
+ghost use Rattle.std.specs.Prelude.{◌≡◌, ◌&&◌};
 ghost use Rattle.std.specs.Int.Signed.{lt_z};
 ghost use Rattle.bet_sizing.specs.Counting.{Accepted, AcceptedIn, Collectable, Collected, Counted, Nettable, Netted};
 ghost use Rattle.bet_sizing.specs.Counts.{indicator, on_side};
 ghost use Rattle.bet_sizing.specs.Refusals.{ConcurrentSides};
 
-use crate::{Outcome, refusals, sorting};
+use crate::{refusals, sorting};
+use refusal::Refusal;
 
 // Whether a side is the one that is asked for.
 fn on_side(long: bool, side: f64) -> bool
@@ -14,16 +15,6 @@ fn on_side(long: bool, side: f64) -> bool
 {
     let up = side > 0.0;
     if long { up } else { !up }
-}
-
-// a - b, or 0 where b is the larger.
-fn saturating_sub(a: usize, b: usize) -> usize
-    ensures { result ≡ a - b }
-{
-    if a < b {
-        return 0;
-    }
-    a - b
 }
 
 // 1 if a span is of the side that is asked for and ends after it starts, else 0.
@@ -73,7 +64,7 @@ fn net_counts(starts: &[i64], s: &[u64], e: &[u64], out: &mut [f64])
     let mut i: usize = 0;
     while i < starts.len() {
         let k = number::key(starts[i]);
-        let c = saturating_sub(sorting::rank_of(s, k), sorting::rank_of(e, k)) as u32;
+        let c = sorting::rank_of(s, k).saturating_sub(sorting::rank_of(e, k)) as u32;
         out[i] = c as f64;
         i += 1;
     }
@@ -117,15 +108,12 @@ pub fn get_concurrent_sides(
     sides: &[f64],
     long: &mut [f64],
     short: &mut [f64],
-) -> Outcome
+) -> Result<usize, Refusal>
     ensures { ConcurrentSides starts.now ends.now sides.now long.old long.new short.old short.new result }
 {
-    let room = refusals::smaller(long.len(), short.len());
-    let number = refusals::spans(starts.len(), ends.len(), sides.len(), room);
-    if number != 0 {
-        return Outcome::Unwritten(number);
-    }
+    let room = long.len().min(short.len());
+    refusals::check_spans(starts.len(), ends.len(), sides.len(), room)?;
     count_side(true, starts, ends, sides, long);
     count_side(false, starts, ends, sides, short);
-    Outcome::Written(starts.len())
+    Ok(starts.len())
 }

@@ -5,7 +5,7 @@ ghost use Rattle.std.specs.Prelude.{◌≡◌, ◌++◌, ◌≤◌, length, drop
 ghost use Rattle.budget.specs.Budget.{BetSizeBudget, largest, share};
 ghost use Rattle.budget.specs.Sizes.{sizes_of};
 
-use bet_sizing::Outcome;
+use refusal::Refusal;
 
 // The largest of the counts, 0 for none.
 fn largest(counts: &[f64]) -> f64
@@ -54,18 +54,20 @@ fn room() -> [f64; 16384]
 
 // Writes the budget size of each span. The counts have room for as many spans as are taken, so they
 // are refused as the sizes are, but for the room of these.
-pub fn bet_size_budget(starts: &[i64], ends: &[i64], sides: &[f64], size: &mut [f64]) -> Outcome
+pub fn bet_size_budget(
+    starts: &[i64],
+    ends: &[i64],
+    sides: &[f64],
+    size: &mut [f64],
+) -> Result<usize, Refusal>
     ensures { BetSizeBudget starts.now ends.now sides.now size.old size.new result }
 {
     let mut long = room();
     let mut short = room();
-    let counted = bet_sizing::get_concurrent_sides(starts, ends, sides, &mut long, &mut short);
-    let Outcome::Written(n) = counted else {
-        return counted;
-    };
+    let n = bet_sizing::get_concurrent_sides(starts, ends, sides, &mut long, &mut short)?;
     if size.len() < n {
-        return Outcome::Unwritten(8);
+        return Err(Refusal::TooLittleRoom);
     }
     sizes_of(&long[..n], &short[..n], size);
-    Outcome::Written(n)
+    Ok(n)
 }

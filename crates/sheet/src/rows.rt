@@ -36,7 +36,7 @@ pub(crate) fn put(starts: &[i64], ends: &[i64], sides: &[f64], out: &mut [u8]) -
     let mut long = [0.0f64; 1024];
     let mut short = [0.0f64; 1024];
     let mut size = [0.0f64; 1024];
-    bet_sizing::get_concurrent_sides(starts, ends, sides, &mut long, &mut short);
-    budget::bet_size_budget(starts, ends, sides, &mut size);
+    bet_sizing::get_concurrent_sides(starts, ends, sides, &mut long, &mut short).unwrap();
+    budget::bet_size_budget(starts, ends, sides, &mut size).unwrap();
     put_rows(starts, ends, sides, &long, &short, &size, out)
 }
