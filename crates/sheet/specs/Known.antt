@@ -1,5 +1,5 @@
 -- Document 01's worked sheet, and the smallest faults, computed through the definitions.
-use Rattle.std.specs.Prelude.{ℕ, ◌≡◌, refl, List, [], ◌∷◌, ◌++◌, pos, negsuc}
+use Rattle.std.specs.Prelude.{ℕ, ◌≡◌, refl, List, [], ◌∷◌, ◌++◌, pos, negsuc, Ok}
 use Prim.Native.String.{String}
 use Rattle.std.specs.Float.Ieee.{of_bits, to_bits, of_int, lt, div, sub, round, units, odd, size, sum, add, neg, span, climb}
 use Rattle.float.specs.Leaves.{larger_of}
@@ -10,8 +10,8 @@ use Rattle.text.specs.Decode.{word, nibble, numeral, natural, instant, hexes}
 use Rattle.text.specs.Print.{width, decimal, hex, shown}
 use Rattle.sheet_forms.specs.Forms.{span_form, line_form, span_text, span_lines}
 use Rattle.sheet_rows.specs.Rows.{row_line}
-use Rattle.sheet_read.specs.Sheet.{lines, sheet, accepted}
-use Rattle.sheet.specs.CountSheet.{count_sheet, refusal_at}
+use Rattle.sheet_read.specs.Sheet.{lines, sheet}
+use Rattle.sheet.specs.CountSheet.{count_sheet, reason, refusal}
 use Rattle.sheet.specs.Rows.{row_at, text_of}
 
 worked : count_sheet
@@ -52,11 +52,11 @@ faults =
     ∷ []
 
 known_faults : refusals faults ≡ all (bytes "(refused 15 2)\n") faults
-unfolding word nibble numeral natural instant hexes span_form line_form lines sheet width decimal refusal_at
+unfolding word nibble numeral natural instant hexes span_form line_form lines sheet width decimal reason refusal
 known_faults = refl
 
 -- instants at the ends of i64, printed and read back
 ends : sheet (span_lines (record { from = negsuc 9223372036854775807; to = pos 9223372036854775807; side = 0x7ff8_0000_0000_0001 } ∷ []))
-    ≡ accepted (record { from = negsuc 9223372036854775807; to = pos 9223372036854775807; side = 0x7ff8_0000_0000_0001 } ∷ [])
+    ≡ Ok (record { from = negsuc 9223372036854775807; to = pos 9223372036854775807; side = 0x7ff8_0000_0000_0001 } ∷ [])
 unfolding word nibble numeral natural instant hexes span_form line_form lines sheet width decimal hex shown span_text
 ends = refl
