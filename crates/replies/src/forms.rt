@@ -2,6 +2,7 @@
 ghost use Rattle.std.specs.Prelude.{◌≡◌};
 ghost use Rattle.replies.specs.Replies.{is_bad};
 
+use grid::FitResultRow;
 use moments::{Five, Params};
 
 // How a walk ended, and the state after it.
@@ -17,9 +18,7 @@ pub struct Report {
 // How a search ended: its row, if there is one, and the state after it.
 #[derive(Clone, Copy)]
 pub struct Search {
-    pub is_row: bool,
-    pub row: Params,
-    pub row_error: f64,
+    pub row: Option<FitResultRow>,
     pub parameters: Params,
     pub error: f64,
     pub epsilon: f64,

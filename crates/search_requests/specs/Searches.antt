@@ -1,7 +1,6 @@
 -- The request of one search, by its words and what they come to, and the reply to a line. Definitions only.
-use Rattle.std.specs.Prelude.{ℕ, ◌-◌, ◌^◌, Bool, true, false, List, Float, drop, length, replicate, take}
+use Rattle.std.specs.Prelude.{ℕ, ◌-◌, ◌^◌, List, Float, Option, Some, None, drop, length, replicate, take}
 use Rattle.float.specs.Constants.{nought}
-use Rattle.grid.specs.Rows.{params_of, row_of, zeros}
 use Rattle.grid.specs.Search.{single_fit}
 use Rattle.grid.specs.declared.Best.{Best}
 use Rattle.grid.specs.declared.Best.TheVariants.{Nothing, Row}
@@ -47,25 +46,20 @@ abbrev pub given_is : List ℕ → given.Given → Got Epsilon
 given_is s (given.TheVariants.Is e k) = got e (drop k s)
 given_is s given.TheVariants.No = bad
 
--- a row, or what stands for one, and the state after the search
-abbrev pub search_of : M2N → Bool → FitResultRow → Search
-search_of m there r = record {
-  is_row = there;
-  row = params_of r;
-  row_error = r.error;
+-- the row, if there is one
+abbrev pub row_in : Best → Option FitResultRow
+row_in (Row r) = Some r
+row_in Nothing = None
+
+-- that row, and the state after the search
+abbrev pub ended_search : M2N → Best → Search
+ended_search m best = record {
+  row = row_in best;
   parameters = m.parameters;
   error = m.error;
   epsilon = m.epsilon;
   new_moments = m.new_moments;
 }
-
--- where there is no row, zeros stand for it
-abbrev pub no_row : FitResultRow
-no_row = row_of zeros nought
-
-abbrev pub ended_search : M2N → Best → Search
-ended_search m (Row r) = search_of m true r
-ended_search m Nothing = search_of m false no_row
 
 -- how a search ended, with the state after it, as a reply
 abbrev pub outcome_reply : outcome.Outcome → M2N → Reply

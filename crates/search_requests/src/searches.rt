@@ -1,11 +1,10 @@
 // The request of one search. A list of moments longer than 16 is read, and refused by the library. A
 // weight has 17 bytes of a line of at most 65,535 bytes, so a line has fewer than 4,096 of them.
 ghost use Rattle.std.specs.Prelude.{◌≡◌, drop};
-ghost use Rattle.search_requests.specs.Searches.{ended_search, given_is, next_given, no_row, overriding, search_from, search_of, searched_reply, searches, single, weights_from};
+ghost use Rattle.search_requests.specs.Searches.{ended_search, given_is, next_given, overriding, search_from, searched_reply, searches, single, weights_from};
 ghost use Rattle.replies.specs.Requests.{only};
 
-use grid::{Best, Epsilon, FitResultRow, Fitted, Outcome};
-use moments::Params;
+use grid::{Best, Epsilon, Fitted, Outcome};
 use protocol::Fraction;
 use protocol_lists::{List, State};
 use replies::{Reply, Search};
@@ -133,44 +132,15 @@ fn reply(f: Fitted) -> Reply
 fn ended(m: M2N, best: Best) -> Search
     ensures { result ≡ ended_search m best }
 {
-    match best {
-        Best::Row(r) => search_of(m, true, r),
-        Best::Nothing => search_of(m, false, no_row()),
-    }
-}
-
-fn search_of(m: M2N, is_row: bool, r: FitResultRow) -> Search
-    ensures { result ≡ search_of m is_row r }
-{
-    let parameters = m.parameters;
-    let new_moments = m.new_moments;
+    let row = match best {
+        Best::Row(r) => Some(r),
+        Best::Nothing => None,
+    };
     Search {
-        is_row: is_row,
-        row: Params {
-            mu_1: r.mu_1,
-            mu_2: r.mu_2,
-            sigma_1: r.sigma_1,
-            sigma_2: r.sigma_2,
-            p_1: r.p_1,
-        },
-        row_error: r.error,
-        parameters: parameters,
+        row,
+        parameters: m.parameters,
         error: m.error,
         epsilon: m.epsilon,
-        new_moments: new_moments,
-    }
-}
-
-// Stands for a row where there is none.
-fn no_row() -> FitResultRow
-    ensures { result ≡ no_row }
-{
-    FitResultRow {
-        mu_1: 0.0,
-        mu_2: 0.0,
-        sigma_1: 0.0,
-        sigma_2: 0.0,
-        p_1: 0.0,
-        error: 0.0,
+        new_moments: m.new_moments,
     }
 }
