@@ -38,7 +38,6 @@ pub record Gathered (long : Bool) (ss es : List ℤ) (ds : List Float) (s₀ e�
   pub size_e : length e ≡ length e₀
 
 pub gathered_none : (long : Bool) (ss es : List ℤ) (ds : List Float) (s e : List ℕ) → Gathered long ss es ds s e s e 0 0
-unfolding rank
 gathered_none long ss es ds s e = record {
   within = omega arith;
   few = omega arith;

@@ -70,7 +70,7 @@ fn net_counts(starts: &[i64], s: &[u64], e: &[u64], out: &mut [f64])
     }
 }
 
-// Writes for each span the number of a side live at its start, with s, e and t for room.
+// Writes for each span the number of a side live at its start, with s and e for room.
 fn count_side_in(
     long: bool,
     starts: &[i64],
@@ -78,16 +78,17 @@ fn count_side_in(
     sides: &[f64],
     s: &mut [u64],
     e: &mut [u64],
-    t: &mut [u64],
     out: &mut [f64],
 )
-    requires { AcceptedIn starts.now ends.now sides.now s.old e.old t.old out.old }
+    requires { AcceptedIn starts.now ends.now sides.now s.old e.old out.old }
     ensures { Counted long starts.now ends.now sides.now out.old out.new }
 {
     let m = collect(long, starts, ends, sides, s, e);
-    sorting::sort(&mut s[..m], t);
-    sorting::sort(&mut e[..m], t);
-    net_counts(starts, &s[..m], &e[..m], out);
+    let s = &mut s[..m];
+    let e = &mut e[..m];
+    s.sort_unstable();
+    e.sort_unstable();
+    net_counts(starts, s, e, out);
 }
 
 // The same, with rooms of its own, apart for shorter proofs.
@@ -97,8 +98,7 @@ fn count_side(long: bool, starts: &[i64], ends: &[i64], sides: &[f64], out: &mut
 {
     let mut s = [0u64; 16384];
     let mut e = [0u64; 16384];
-    let mut t = [0u64; 16384];
-    count_side_in(long, starts, ends, sides, &mut s, &mut e, &mut t, out);
+    count_side_in(long, starts, ends, sides, &mut s, &mut e, out);
 }
 
 // Writes for each span how many are live at its start, the long and the short.

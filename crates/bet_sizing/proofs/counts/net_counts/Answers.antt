@@ -4,6 +4,7 @@ use mathlib.Core.Path.{◌≡◌, ap, ◌∙◌}
 use mathlib.Core.List.{List}
 use native.Mathlib.Omega.{arith}
 use borrow.Author.Rules.{rules}
+use lib.Dec.{leb}
 use lib.ListN.{get_or}
 use lib.IntN.{ℤ, pos}
 use lib.Ieee.{Float}
@@ -13,7 +14,7 @@ use Rattle.float.specs.Keys.{key_of}
 use Rattle.bet_sizing.specs.Counting.{net}
 use Rattle.bet_sizing.specs.Counts.{whole}
 use Rattle.bet_sizing.specs.Sorting.{rank}
-use Rattle.bet_sizing.proofs.Ranks.{rank_le}
+use Rattle.std.proofs.lemmas.List.Sums.{count_by-le-length}
 use Rattle.bet_sizing.proofs.Filling.{map_none, map_more, map_all}
 use Rattle.bet_sizing.proofs.counts.net_counts.Goals as goal
 
@@ -31,7 +32,7 @@ pub rank_of-requires-in-loop-i : goal.rank_of-requires-in-loop-i
 rank_of-requires-in-loop-i c = (c.requires.ends, c.requires.few_ends)
 
 pub overflow_cast-c : goal.overflow_cast-c
-overflow_cast-c c = omega (arith, c.saturating_sub-c.ensures, c.rank_of.ensures, rank_le c.key-k.result c.args.s.now, c.requires.few_starts)
+overflow_cast-c c = omega (arith, c.saturating_sub-c.ensures, c.rank_of.ensures, count_by-le-length (λ k. leb k c.key-k.result) c.args.s.now, c.requires.few_starts)
 
 pub bounds-out-i : goal.bounds-out-i
 bounds-out-i c = omega (arith, c.loop-i.invariant.size, c.requires.room)
