@@ -2,29 +2,23 @@
 // another.
 #![tactic(auto)]
 
-ghost use Rattle.std.specs.Prelude.{◌≡◌, ℕ, ◌≤◌, nat_abs};
+ghost use Rattle.std.specs.Prelude.{◌≡◌, ℕ, ◌≤◌};
 ghost use Rattle.std.specs.Int.{w64};
 ghost use Rattle.std.proofs.Common.{SFits};
 ghost use Rattle.limit_price.specs.LimitPrice.{limit_price_sigmoid, lot_number, lot_price, summed};
 
-mod blocks; // blocks.rt: the prices of 32 lots at a time
-
 use refusal::Refusal;
 
-// The prices of the lots walked, summed as Rust's sum() does, from -0: whole blocks first.
+// The prices of the lots walked, summed as Rust's sum() does, from -0.
 fn sum_of_prices(f: f64, w: f64, max_pos: f64, current: i64, sgn: i64, lots: u64) -> f64
-    requires { ((i : ℕ) → i ≤ lots → SFits w64 (lot_number current sgn i)) × (nat_abs sgn ≤ 1) × (lots ≤ 1000000) }
+    requires { (i : ℕ) → i ≤ lots → SFits w64 (lot_number current sgn i) }
     ensures { result ≡ summed (lot_price f w max_pos current sgn) lots }
 {
-    let whole = blocks::blocks_of(f, current, lots);
-    let walked = blocks::walk(f, w, max_pos, current, sgn, whole);
-    let mut sum = walked.sum;
-    let mut lot = walked.lot;
-    let mut i: u64 = whole * 32;
-    while i < lots {
-        lot = lot + sgn;
-        sum = sum + prices::inv_price_sigmoid(f, w, number::i64_as_f64(lot) / max_pos);
-        i += 1;
+    let mut sum = -0.0;
+    let mut lot = current;
+    for _ in 0..lots {
+        lot += sgn;
+        sum += prices::inv_price_sigmoid(f, w, number::i64_as_f64(lot) / max_pos);
     }
     sum
 }
