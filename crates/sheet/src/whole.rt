@@ -47,8 +47,10 @@ fn put_answer(s: &[u8], out: &mut [u8]) -> usize
 
 // Puts the answer to the sheet s at the front of out and tells its length: the rows, or the one
 // line that refuses it. Where out has too little room it stays as it is, and the answer is 0.
+#[tactic(auto, using(text::proofs::Placing::placed_within))]
 pub fn count_sheet(s: &[u8], out: &mut [u8]) -> usize
-    ensures { Placed out.old out.new 0 result (count_sheet s.now) }
+    ensures placed { Placed out.old out.new 0 result (count_sheet s.now) }
+    ensures within { result ≤ length out.new }
 {
     let mut room = [0u8; 131072]; // for 1,024 rows of 128 bytes
     let n = put_answer(s, &mut room);
