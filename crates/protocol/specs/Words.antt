@@ -1,10 +1,9 @@
 -- The words of a request, decoded. Definitions only.
-use Rattle.std.specs.Prelude.{ℕ, Bool, true, false, List, ℤ, Float, drop}
+use Rattle.std.specs.Prelude.{ℕ, Bool, true, false, List, ℤ, Float}
 use Rattle.std.specs.Float.{binary64}
 use Rattle.std.specs.Float.Ieee.{of_bits}
 use Rattle.text.specs.Bytes.{bytes}
 use Rattle.text.specs.Decode.{Got, got, bad, ◌▷◌, word, hexes, instant, natural, up_to}
-use Rattle.protocol.specs.declared.Fraction as fraction
 
 -- whether the bytes are of the form
 module _ {A : Type 0} where
@@ -25,8 +24,3 @@ next_natural limit s = word (bytes " ") s ▷ (λ u t. up_to limit (natural t))
 
 abbrev pub next_instant : List ℕ → Got ℤ
 next_instant s = word (bytes " ") s ▷ (λ u t. instant t)
-
--- what an answer says
-abbrev pub fraction_is : List ℕ → fraction.Fraction → Got Float
-fraction_is s (fraction.TheVariants.Is x k) = got x (drop k s)
-fraction_is s fraction.TheVariants.No = bad
