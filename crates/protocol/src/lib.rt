@@ -3,15 +3,16 @@
 #![tactic(auto)]
 
 ghost use Rattle.std.specs.Prelude.{◌≡◌};
-ghost use Rattle.text.specs.Decode.{word};
-ghost use Rattle.text.specs.Meaning.{got_of};
-ghost use Rattle.protocol.specs.Words.{a_fraction, is_got, next_fraction, next_instant, next_natural};
+ghost use Rattle.text.specs.Meaning.{got_of, left_of};
+ghost use Rattle.protocol.specs.Words.{a_fraction, next_fraction, next_instant, next_natural, words_after};
 
-// Whether a request begins with a name, which is given with the blank after it.
-pub fn begins(s: &[u8], name: &[u8]) -> bool
-    ensures { result ≡ is_got (word name.now s.now) }
+// The words of a request that begins with a name: what follows the name, from the blank on.
+pub fn words_after<'a>(s: &'a [u8], name: &[u8]) -> Option<&'a [u8]>
+    ensures { words_after name.now s.now ≡ left_of result }
 {
-    text_read::read_word(s, name).is_some()
+    let words = text_read::read_word(s, name)?;
+    text_read::read_word(words, b" ")?;
+    Some(words)
 }
 
 // A fraction.
