@@ -1,13 +1,20 @@
 -- The words of a request, decoded. Definitions only.
-use Rattle.std.specs.Prelude.{ℕ, List, ℤ, Float}
+use Rattle.std.specs.Prelude.{ℕ, List, [], ◌∷◌, ℤ, Float, Option, Some, None}
 use Rattle.std.specs.Float.{binary64}
 use Rattle.std.specs.Float.Ieee.{of_bits}
 use Rattle.text.specs.Bytes.{bytes}
-use Rattle.text.specs.Decode.{Got, got, ◌▷◌, word, hexes, instant, natural, up_to}
+use Rattle.text.specs.Decode.{Got, got, bad, ◌▷◌, word, hexes, instant, natural, up_to}
 
 -- what follows a name, where a blank does: the bytes from the blank on
 abbrev pub words_after : List ℕ → List ℕ → Got (Unit {0})
 words_after name s = word name s ▷ (λ u words. word (bytes " ") words ▷ (λ v t. got tt words))
+
+-- the value, where nothing follows it
+module _ {A : Type 0} where
+  abbrev pub only : Got A → Option A
+  only (got a []) = Some a
+  only (got a (b ∷ s)) = None
+  only bad = None
 
 -- a fraction: sixteen hexadecimal digits, the float's bits
 abbrev pub a_fraction : List ℕ → Got Float

@@ -4,7 +4,7 @@
 
 ghost use Rattle.std.specs.Prelude.{◌≡◌};
 ghost use Rattle.text.specs.Meaning.{got_of, left_of};
-ghost use Rattle.protocol.specs.Words.{a_fraction, next_fraction, next_instant, next_natural, words_after};
+ghost use Rattle.protocol.specs.Words.{a_fraction, next_fraction, next_instant, next_natural, only, words_after};
 
 // The words of a request that begins with a name: what follows the name, from the blank on.
 pub fn words_after<'a>(s: &'a [u8], name: &[u8]) -> Option<&'a [u8]>
@@ -13,6 +13,14 @@ pub fn words_after<'a>(s: &'a [u8], name: &[u8]) -> Option<&'a [u8]>
     let words = text_read::read_word(s, name)?;
     text_read::read_word(words, b" ")?;
     Some(words)
+}
+
+// What was read, where nothing follows it.
+pub fn only<T: Copy>(read: Option<(T, &[u8])>) -> Option<T>
+    ensures { result ≡ only (got_of read.entry) }
+{
+    let (value, rest) = read?;
+    if rest.is_empty() { Some(value) } else { None }
 }
 
 // A fraction.

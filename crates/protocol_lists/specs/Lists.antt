@@ -6,8 +6,7 @@ use Rattle.moments.specs.declared.Five.{Five}
 use Rattle.moments.specs.declared.Params.{Params}
 use Rattle.text.specs.Decode.{Got, got, bad, ◌▷◌}
 use Rattle.protocol.specs.Words.{next_fraction, next_instant, next_natural}
-use Rattle.protocol_lists.specs.declared.List as list
-use Rattle.protocol_lists.specs.declared.State as state
+use Rattle.protocol_lists.specs.declared.State.{State}
 
 -- n of a form
 module _ {A : Type 0} where
@@ -83,10 +82,6 @@ fraction_list s = a_list next_fraction s
 abbrev pub instant_list : List ℕ → Got (List ℤ)
 instant_list s = a_list next_instant s
 
--- a state: eleven fractions
-abbrev pub next_state : List ℕ → Got (List Float)
-next_state s = fractions 11 s
-
 -- the parameters and the moments among the numbers of a state
 abbrev pub params_among : List Float → Params
 params_among v = record { mu_1 = get_or v 0 nan; mu_2 = get_or v 1 nan; sigma_1 = get_or v 2 nan; sigma_2 = get_or v 3 nan; p_1 = get_or v 4 nan }
@@ -94,12 +89,6 @@ params_among v = record { mu_1 = get_or v 0 nan; mu_2 = get_or v 1 nan; sigma_1 
 abbrev pub moments_among : List Float → Five
 moments_among v = record { m_1 = get_or v 6 nan; m_2 = get_or v 7 nan; m_3 = get_or v 8 nan; m_4 = get_or v 9 nan; m_5 = get_or v 10 nan }
 
--- what an answer says
-abbrev pub state_is : List ℕ → state.State → Got (List Float)
-state_is s (state.TheVariants.Is p x m k) =
-    got (p.mu_1 ∷ p.mu_2 ∷ p.sigma_1 ∷ p.sigma_2 ∷ p.p_1 ∷ x ∷ m.m_1 ∷ m.m_2 ∷ m.m_3 ∷ m.m_4 ∷ m.m_5 ∷ []) (drop k s)
-state_is s state.TheVariants.No = bad
-
-abbrev pub list_is : List ℕ → list.List → Got ℕ
-list_is s (list.TheVariants.Is n k) = got n (drop k s)
-list_is s list.TheVariants.No = bad
+-- a state: eleven fractions
+abbrev pub next_state : List ℕ → Got State
+next_state s = fractions 11 s ▷ (λ v t. got (record { parameters = params_among v; error = get_or v 5 nan; new_moments = moments_among v }) t)
