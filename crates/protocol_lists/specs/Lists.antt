@@ -1,5 +1,5 @@
 -- Lists of words of a request, and the state, decoded. Definitions only.
-use Rattle.std.specs.Prelude.{ℕ, zero, suc, ◌-◌, ◌^◌, Bool, true, false, List, [], ◌∷◌, Float, ℤ, drop, get_or, length}
+use Rattle.std.specs.Prelude.{ℕ, zero, suc, ◌-◌, ◌^◌, List, [], ◌∷◌, Float, ℤ, get_or}
 use Rattle.std.specs.Float.{nan}
 use Rattle.std.proofs.lemmas.List.Edits.{sets}
 use Rattle.moments.specs.declared.Five.{Five}
@@ -13,10 +13,6 @@ module _ {A : Type 0} where
   unfoldable pub entries_of : (List ℕ → Got A) → ℕ → List ℕ → Got (Unit {0})
   entries_of form zero s = got tt s
   entries_of form (suc n) s = form s ▷ (λ x t. entries_of form n t)
-
--- n fractions, each after a blank
-abbrev pub entries : ℕ → List ℕ → Got (Unit {0})
-entries n s = entries_of next_fraction n s
 
 -- what follows from a value and the bytes after it; nothing where the bytes are not of the form
 module _ {A B : Type 0} where
@@ -35,29 +31,10 @@ module _ {A : Type 0} where
   abbrev pub in_front : List A → List A → List A
   in_front values old = sets old 0 values
 
--- what a lent list holds after as many fractions as it has places were to be read into it
-abbrev pub fractions_in : List Float → List ℕ → List Float
-fractions_in old s = in_front (values_of next_fraction (length old) s) old
-
-abbrev pub is_nil : List ℕ → Bool
-is_nil [] = true
-is_nil (b ∷ s) = false
-
--- whether nothing is left after them
-abbrev pub is_rest : Got (Unit {0}) → Bool
-is_rest (got u s) = is_nil s
-is_rest bad = false
-
 -- how many, and then so many of a form
 module _ {A : Type 0} where
   abbrev pub list_of : (List ℕ → Got A) → List ℕ → Got ℕ
   list_of form s = next_natural (2 ^ 64 - 1) s ▷ (λ n t. entries_of form n t ▷ (λ u v. got n v))
-
-abbrev pub next_list : List ℕ → Got ℕ
-next_list s = list_of next_fraction s
-
-abbrev pub next_instants : List ℕ → Got ℕ
-next_instants s = list_of next_instant s
 
 -- what a lent list holds after a list of a form was to be read into it
 module _ {A : Type 0} where

@@ -44,12 +44,19 @@ pub fn read_next_list<'a, T: Entry>(s: &'a [u8], xs: &mut [T]) -> Option<(usize,
     let mut rest = entries;
     for i in 0..count {
         let (x, after) = T::read_next(rest)?;
-        if let Some(place) = xs.get_mut(i as usize) {
-            *place = x;
-        }
+        keep(xs, i as usize, x);
         rest = after;
     }
     Some((count as usize, rest))
+}
+
+// Puts x at the place i, where there is one.
+fn keep<T: Copy>(xs: &mut [T], i: usize, x: T)
+    ensures { xs.new ≡ set xs.old i x }
+{
+    if i < xs.len() {
+        xs[i] = x;
+    }
 }
 
 // N fractions, each after a blank.
