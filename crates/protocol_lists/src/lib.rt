@@ -86,7 +86,19 @@ pub fn read_next_state(s: &[u8]) -> Option<(State, &[u8])>
     ensures { next_state s.now ≡ got_of result }
 {
     let (values, rest) = read_next_fractions::<11>(s)?;
-    let [mu_1, mu_2, sigma_1, sigma_2, p_1, error, m_1, m_2, m_3, m_4, m_5] = values;
+    let [
+        mu_1,
+        mu_2,
+        sigma_1,
+        sigma_2,
+        p_1,
+        error,
+        m_1,
+        m_2,
+        m_3,
+        m_4,
+        m_5,
+    ] = values;
     let state = State {
         parameters: Params {
             mu_1,
