@@ -1,10 +1,10 @@
 -- The reply to a line. A request is told by its name; then come its words, each of a form, and nothing after them. Definitions only.
-use Rattle.std.specs.Prelude.{ℕ, List, [], ◌∷◌}
+use Rattle.std.specs.Prelude.{ℕ, List, [], ◌∷◌, Option}
 use Prim.Native.String.{String}
 use Rattle.text.specs.Bytes.{bytes}
 use Rattle.text.specs.Decode.{Got, got, bad, ◌▷◌}
-use Rattle.protocol.specs.Words.{words_after}
-use Rattle.replies.specs.declared.forms.Reply as replies
+use Rattle.protocol.specs.Words.{only, words_after}
+use Rattle.replies.specs.declared.forms.Reply.{Reply}
 
 -- one form after another, so that `do` lists a request's words
 module _ {A B : Type 0} where
@@ -31,10 +31,6 @@ module _ {A : Type 0} where
   abbrev pub after : String → (List ℕ → A) → List ℕ → A → A
   after name rest s other = from_words (words_after (bytes name) s) rest other
 
--- the reply by the words: a line in which something follows them, or one is not of its form, is no request
-abbrev pub only : Got replies.Reply → replies.Reply
-only g = only_or replies.TheVariants.Bad g
-
--- the reply to a line that begins with a name and a blank, by the words after the name; to any other line, `other`
-abbrev pub named : String → (List ℕ → Got replies.Reply) → List ℕ → replies.Reply → replies.Reply
+-- the reply to a line that begins with a name and a blank, by the words after the name: None where something follows them, or one is not of its form; to any other line, `other`
+abbrev pub named : String → (List ℕ → Got Reply) → List ℕ → Option Reply → Option Reply
 named name words s other = after name (λ t. only (words t)) s other
