@@ -3,7 +3,7 @@
 ghost use Rattle.std.specs.Prelude.{◌≡◌, ◌&&◌};
 ghost use Rattle.std.specs.Int.Signed.{lt_z};
 ghost use Rattle.bet_sizing.specs.Counting.{Accepted, AcceptedIn, Collectable, Collected, Counted, Nettable, Netted};
-ghost use Rattle.bet_sizing.specs.Counts.{indicator, on_side};
+ghost use Rattle.bet_sizing.specs.Counts.{on_side};
 ghost use Rattle.bet_sizing.specs.Refusals.{ConcurrentSides};
 
 use crate::{refusals, sorting};
@@ -17,17 +17,11 @@ fn on_side(long: bool, side: f64) -> bool
     if long { up } else { !up }
 }
 
-// 1 if a span is of the side that is asked for and ends after it starts, else 0.
-fn ever_live(long: bool, start: i64, end: i64, side: f64) -> usize
-    ensures { result ≡ indicator (lt_z start end && on_side long side) }
+// Whether a span is of the side that is asked for and ends after it starts.
+fn ever_live(long: bool, start: i64, end: i64, side: f64) -> bool
+    ensures { result ≡ (lt_z start end && on_side long side) }
 {
-    if start < end {
-        if on_side(long, side) {
-            return 1;
-        }
-        return 0;
-    }
-    0
+    start < end && on_side(long, side)
 }
 
 // Writes the keys of the starts and of the ends of a side's spans that are ever live, and answers
@@ -43,15 +37,11 @@ fn collect(
     requires { Collectable starts.now ends.now sides.now s.old e.old }
     ensures { Collected long starts.now ends.now sides.now s.new e.new result }
 {
-    let mut m: usize = 0;
-    let mut i: usize = 0;
-    while i < starts.len() {
-        let a = starts[i];
-        let b = ends[i];
-        s[m] = number::key(a);
-        e[m] = number::key(b);
-        m += ever_live(long, a, b, sides[i]);
-        i += 1;
+    let mut m = 0;
+    for i in 0..starts.len() {
+        s[m] = number::key(starts[i]);
+        e[m] = number::key(ends[i]);
+        m += usize::from(ever_live(long, starts[i], ends[i], sides[i]));
     }
     m
 }
@@ -61,12 +51,10 @@ fn net_counts(starts: &[i64], s: &[u64], e: &[u64], out: &mut [f64])
     requires { Nettable starts.now s.now e.now out.old }
     ensures { Netted starts.now s.now e.now out.old out.new }
 {
-    let mut i: usize = 0;
-    while i < starts.len() {
+    for i in 0..starts.len() {
         let k = number::key(starts[i]);
-        let c = sorting::rank_of(s, k).saturating_sub(sorting::rank_of(e, k)) as u32;
-        out[i] = c as f64;
-        i += 1;
+        let count = sorting::rank_of(s, k).saturating_sub(sorting::rank_of(e, k));
+        out[i] = count as u32 as f64;
     }
 }
 

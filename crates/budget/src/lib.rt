@@ -12,10 +12,8 @@ fn largest(counts: &[f64]) -> f64
     ensures { result ≡ largest counts.now }
 {
     let mut most = 0.0;
-    let mut i: usize = 0;
-    while i < counts.len() {
-        most = number::larger(most, counts[i]);
-        i += 1;
+    for count in counts {
+        most = number::larger(most, *count);
     }
     most
 }
@@ -37,10 +35,8 @@ fn sizes_of(long: &[f64], short: &[f64], size: &mut [f64])
 {
     let max_long = largest(long);
     let max_short = largest(short);
-    let mut i: usize = 0;
-    while i < long.len() {
+    for i in 0..long.len() {
         size[i] = share_of(long[i], max_long) - share_of(short[i], max_short);
-        i += 1;
     }
 }
 

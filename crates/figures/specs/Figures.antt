@@ -12,7 +12,6 @@ use Rattle.prices.specs.Prices.{get_w_sigmoid, inv_price_sigmoid}
 use Rattle.limit_price.specs.LimitPrice.{limit_price_sigmoid}
 use Rattle.refusal.specs.declared.Refusal.{Refusal}
 use Rattle.iterate.specs.Refusals.{iter4, iter5}
-use Rattle.iterate.specs.declared.Iterate.TheVariants.{Stepped}
 use Rattle.step.specs.declared.Step.TheVariants.{Admitted, Inadmissible}
 
 -- ---- how the rows are written
@@ -80,14 +79,14 @@ table =
     ∷ raw_moment [] (nan ∷ []) ⇒ Ok 1
     ∷ raw_out [] (2 · 0) (nan ∷ []) ⇒ (2 · 0 ∷ [])
     -- `iter_4` and `iter_5` on M from mean 2, weight 0.5: (0, 2, 1, 2, 0.5).
-    ∷ iter4 (listed M) (2 · 0) (0 · 5) ⇒ Stepped (Admitted (params (0 · 0, 2 · 0, 1 · 0, 2 · 0, 0 · 5)))
-    ∷ iter5 (listed M) (2 · 0) (0 · 5) ⇒ Stepped (Admitted (params (0 · 0, 2 · 0, 1 · 0, 2 · 0, 0 · 5)))
+    ∷ iter4 (listed M) (2 · 0) (0 · 5) ⇒ Ok (Admitted (params (0 · 0, 2 · 0, 1 · 0, 2 · 0, 0 · 5)))
+    ∷ iter5 (listed M) (2 · 0) (0 · 5) ⇒ Ok (Admitted (params (0 · 0, 2 · 0, 1 · 0, 2 · 0, 0 · 5)))
     -- Both on (2, 18, 128, 1304, 13312) from mean 4, weight 0.5: (0, 4, 2, 4, 0.5).
-    ∷ iter4 (listed (2 · 0, 18 · 0, 128 · 0, 1304 · 0, 13312 · 0)) (4 · 0) (0 · 5) ⇒ Stepped (Admitted (params (0 · 0, 4 · 0, 2 · 0, 4 · 0, 0 · 5)))
-    ∷ iter5 (listed (2 · 0, 18 · 0, 128 · 0, 1304 · 0, 13312 · 0)) (4 · 0) (0 · 5) ⇒ Stepped (Admitted (params (0 · 0, 4 · 0, 2 · 0, 4 · 0, 0 · 5)))
+    ∷ iter4 (listed (2 · 0, 18 · 0, 128 · 0, 1304 · 0, 13312 · 0)) (4 · 0) (0 · 5) ⇒ Ok (Admitted (params (0 · 0, 4 · 0, 2 · 0, 4 · 0, 0 · 5)))
+    ∷ iter5 (listed (2 · 0, 18 · 0, 128 · 0, 1304 · 0, 13312 · 0)) (4 · 0) (0 · 5) ⇒ Ok (Admitted (params (0 · 0, 4 · 0, 2 · 0, 4 · 0, 0 · 5)))
     -- Both on (0, 1, 0, 3, 0) from mean 0, weight 0.5: inadmissible.
-    ∷ iter4 (listed (0 · 0, 1 · 0, 0 · 0, 3 · 0, 0 · 0)) (0 · 0) (0 · 5) ⇒ Stepped Inadmissible
-    ∷ iter5 (listed (0 · 0, 1 · 0, 0 · 0, 3 · 0, 0 · 0)) (0 · 0) (0 · 5) ⇒ Stepped Inadmissible
+    ∷ iter4 (listed (0 · 0, 1 · 0, 0 · 0, 3 · 0, 0 · 0)) (0 · 0) (0 · 5) ⇒ Ok Inadmissible
+    ∷ iter5 (listed (0 · 0, 1 · 0, 0 · 0, 3 · 0, 0 · 0)) (0 · 0) (0 · 5) ⇒ Ok Inadmissible
     -- `get_w_sigmoid` of (10, 0.5): 300; of (10, 1): 0.
     ∷ get_w_sigmoid (10 · 0) (0 · 5) ⇒ 300 · 0
     ∷ get_w_sigmoid (10 · 0) (1 · 0) ⇒ 0 · 0

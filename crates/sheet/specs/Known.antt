@@ -12,7 +12,7 @@ use Rattle.sheet_forms.specs.Forms.{span_form, line_form, span_text, span_lines}
 use Rattle.sheet_rows.specs.Rows.{row_line}
 use Rattle.sheet_read.specs.Sheet.{lines, sheet}
 use Rattle.sheet.specs.CountSheet.{count_sheet, reason, refusal}
-use Rattle.sheet.specs.Rows.{row_at, text_of}
+use Rattle.sheet.specs.Rows.{row_at}
 
 worked : count_sheet
     (bytes "(span (from 0) (to 10) (side 3ff0000000000000))\n"
@@ -21,11 +21,11 @@ worked : count_sheet
     ≡ bytes "(row (at 0) (long 1) (short 0) (size 3ff0000000000000))\n"
     ++ bytes "(row (at 5) (long 1) (short 1) (size 0000000000000000))\n"
     ++ bytes "(row (at 10) (long 1) (short 1) (size 0000000000000000))\n"
-unfolding word nibble numeral natural instant hexes span_form line_form lines sheet width decimal hex shown row_line row_at text_of concurrent largest_from larger_of whole lt of_bits to_bits of_int div sub add neg sum round units odd size span climb
+unfolding word nibble numeral natural instant hexes span_form line_form lines sheet width decimal hex shown row_line row_at concurrent largest_from larger_of whole lt of_bits to_bits of_int div sub add neg sum round units odd size span climb
 worked = refl
 
 empty : count_sheet [] ≡ []
-unfolding sheet lines text_of
+unfolding sheet lines
 empty = refl
 
 -- a line that is not a span form, by its number; the first line of each is good
