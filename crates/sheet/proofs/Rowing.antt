@@ -1,7 +1,7 @@
 -- Rows put one after another: a count read back from its float is the count, a row is short, and each row put is the next of the text. Assumes nothing.
 use Prim.Native.Nat.{ℕ, ◌+◌, ◌*◌, ◌≤◌, ◌<◌}
 use mathlib.Core.Path.{◌≡◌, sym, ◌∙◌, ap}
-use mathlib.Core.Bool.{Bool, true, false, ◌&&◌}
+use mathlib.Core.Bool.{◌&&◌}
 use mathlib.Core.List.{List, [], ◌∷◌, ◌++◌, append_assoc, append-nil}
 use native.Mathlib.Omega.{arith}
 use native.Mathlib.Numerals.{add-one}
@@ -11,6 +11,8 @@ use lib.Ieee.{Float, nan, binary64, to_bits, to_unsigned, in_float}
 use lib.Ieee.Back.{unsigned_back}
 use lib.ListN.{length, take, get_or}
 use lib.Seq.{take-suc}
+use Rattle.bet_sizing.specs.declared.counts.Side.{Side}
+use Rattle.bet_sizing.specs.declared.counts.Side.TheVariants.{Long, Short}
 use Rattle.bet_sizing.specs.Counts.{concurrent, live, on_side, whole}
 use Rattle.bet_sizing.proofs.Ranks.{indicator_le}
 use Rattle.budget.specs.Budget.{budget_size}
@@ -22,12 +24,12 @@ use Rattle.sheet.specs.Meaning.{Rowable}
 use Rattle.sheet.specs.Rows.{row_at, text_of}
 
 -- ---- a count, read back from its float
-concurrent_few : (long : Bool) (t : ℤ) (ss es : List ℤ) (ds : List Float) → concurrent long t ss es ds ≤ length ss
+concurrent_few : (side : Side) (t : ℤ) (ss es : List ℤ) (ds : List Float) → concurrent side t ss es ds ≤ length ss
 unfolding concurrent
-concurrent_few long t [] es ds = omega arith
-concurrent_few long t (s ∷ ss) [] ds = omega arith
-concurrent_few long t (s ∷ ss) (e ∷ es) [] = omega arith
-concurrent_few long t (s ∷ ss) (e ∷ es) (d ∷ ds) = omega (arith, indicator_le (live t s e && on_side long d), concurrent_few long t ss es ds)
+concurrent_few side t [] es ds = omega arith
+concurrent_few side t (s ∷ ss) [] ds = omega arith
+concurrent_few side t (s ∷ ss) (e ∷ es) [] = omega arith
+concurrent_few side t (s ∷ ss) (e ∷ es) (d ∷ ds) = omega (arith, indicator_le (live t s e && on_side side d), concurrent_few side t ss es ds)
 
 whole_back : (n : ℕ) → n ≤ 1024 → to_unsigned 64 (whole n) ≡ n
 unfolding whole in_float
@@ -57,8 +59,8 @@ module _ (n : ℕ) (ss es : List ℤ) (ds long short size : List Float) (o : Lis
   row_one out out' at r i l s b room below w el es' eb p =
       let t = get_or ss i (pos 0) in
       let few = h.few in
-      let l_is : l ≡ concurrent true t ss es ds = el ∙ ap (to_unsigned 64) (h.longs i below) ∙ whole_back (concurrent true t ss es ds) (omega (arith, few, concurrent_few true t ss es ds)) in
-      let s_is : s ≡ concurrent false t ss es ds = es' ∙ ap (to_unsigned 64) (h.shorts i below) ∙ whole_back (concurrent false t ss es ds) (omega (arith, few, concurrent_few false t ss es ds)) in
+      let l_is : l ≡ concurrent Long t ss es ds = el ∙ ap (to_unsigned 64) (h.longs i below) ∙ whole_back (concurrent Long t ss es ds) (omega (arith, few, concurrent_few Long t ss es ds)) in
+      let s_is : s ≡ concurrent Short t ss es ds = es' ∙ ap (to_unsigned 64) (h.shorts i below) ∙ whole_back (concurrent Short t ss es ds) (omega (arith, few, concurrent_few Short t ss es ds)) in
       let b_is : b ≡ to_bits binary64 (budget_size ss es ds t) = eb ∙ ap (to_bits binary64) (h.sizes i below) in
       let q : Placed out out' at r (row_at ss es ds t) = rw (l_is, s_is, b_is) at p in
       let more = front_then 128 (omega (arith, h.room, room)) (row_short t _ _ _) w.front q in

@@ -1,6 +1,7 @@
 -- What the functions that put rows promise each other. Definitions only.
-use Rattle.std.specs.Prelude.{ℕ, ◌*◌, ◌≤◌, ◌<◌, ◌≡◌, true, false, List, ℤ, pos, Float, length, get_or}
+use Rattle.std.specs.Prelude.{ℕ, ◌*◌, ◌≤◌, ◌<◌, ◌≡◌, List, ℤ, pos, Float, length, get_or}
 use Rattle.std.specs.Float.{nan}
+use Rattle.bet_sizing.specs.declared.counts.Side.TheVariants.{Long, Short}
 use Rattle.bet_sizing.specs.Counts.{concurrent, whole}
 use Rattle.budget.specs.Budget.{budget_size}
 
@@ -18,6 +19,6 @@ pub record Rowable (ss es : List ℤ) (ds long short size : List Float) (out : L
   pub in_long : length ss ≤ length long
   pub in_short : length ss ≤ length short
   pub in_size : length ss ≤ length size
-  pub longs : (i : ℕ) → i < length ss → get_or long i nan ≡ whole (concurrent true (get_or ss i (pos 0)) ss es ds)
-  pub shorts : (i : ℕ) → i < length ss → get_or short i nan ≡ whole (concurrent false (get_or ss i (pos 0)) ss es ds)
+  pub longs : (i : ℕ) → i < length ss → get_or long i nan ≡ whole (concurrent Long (get_or ss i (pos 0)) ss es ds)
+  pub shorts : (i : ℕ) → i < length ss → get_or short i nan ≡ whole (concurrent Short (get_or ss i (pos 0)) ss es ds)
   pub sizes : (i : ℕ) → i < length ss → get_or size i nan ≡ budget_size ss es ds (get_or ss i (pos 0))

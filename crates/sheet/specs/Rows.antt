@@ -1,14 +1,15 @@
 -- The rows of spans: for each, in order, the counts live at its start and the budget size. Definitions only.
-use Rattle.std.specs.Prelude.{ℕ, true, false, List, [], ◌∷◌, ◌++◌, ℤ, Float}
+use Rattle.std.specs.Prelude.{ℕ, List, [], ◌∷◌, ◌++◌, ℤ, Float}
 use Rattle.std.specs.Float.{binary64}
 use Rattle.std.specs.Float.Ieee.{to_bits}
+use Rattle.bet_sizing.specs.declared.counts.Side.TheVariants.{Long, Short}
 use Rattle.bet_sizing.specs.Counts.{concurrent}
 use Rattle.budget.specs.Budget.{budget_size}
 use Rattle.sheet_rows.specs.Rows.{row_line}
 
 -- the row at t
 unfoldable pub row_at : List ℤ → List ℤ → List Float → ℤ → List ℕ
-row_at ss es ds t = row_line t (concurrent true t ss es ds) (concurrent false t ss es ds) (to_bits binary64 (budget_size ss es ds t))
+row_at ss es ds t = row_line t (concurrent Long t ss es ds) (concurrent Short t ss es ds) (to_bits binary64 (budget_size ss es ds t))
 
 -- a text for each instant, one after another
 unfoldable pub text_of : (ℤ → List ℕ) → List ℤ → List ℕ

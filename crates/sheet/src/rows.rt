@@ -17,13 +17,11 @@ fn put_rows(
     ensures { Fronts out.new result (row_lines starts.now ends.now sides.now) }
 {
     let mut at = 0;
-    let mut i = 0;
-    while i < starts.len() {
+    for i in 0..starts.len() {
         let longs = number::as_usize(long[i]) as u64;
         let shorts = number::as_usize(short[i]) as u64;
         let bits = text_bits::bits_of(size[i]);
         at = sheet_rows::put_row(out, at, starts[i], longs, shorts, bits);
-        i += 1;
     }
     at
 }
