@@ -10,9 +10,9 @@ use lib.Ieee.{Float, nan}
 use Rattle.float.specs.Constants.{nought}
 use Rattle.std.proofs.Common.{Option, Some, None, Result, Ok, Err, drop}
 use Rattle.refusal.specs.declared.Refusal.{Refusal}
-use Rattle.grid_rows.specs.FitResultRow.{six}
+use Rattle.grid_rows.specs.FitResultRow.{six, row_at}
 use Rattle.grid_rows.specs.declared.FitResultRow.{FitResultRow}
-use Rattle.fit_runs.specs.Runs.{rows_out, flat_of, flat_in64, put_in, row_at, rows_at}
+use Rattle.fit_runs.specs.Runs.{rows_out, flat_of, flat_in64, put_in, rows_at}
 
 -- ---- lengths
 pub length_flat : (rows : List FitResultRow) → length (flat_of rows) ≡ 6 * length rows

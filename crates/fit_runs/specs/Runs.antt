@@ -7,7 +7,7 @@ use Rattle.refusal.specs.declared.Refusal.{Refusal}
 use Rattle.walk.specs.declared.M2N.{M2N}
 use Rattle.fit_refusals.specs.Refusals.{Checked, rows_of, runs_refusal}
 use Rattle.grid.specs.Search.{single_fit}
-use Rattle.grid_rows.specs.FitResultRow.{six}
+use Rattle.grid_rows.specs.FitResultRow.{six, row_at, with_row_at}
 use Rattle.grid_rows.specs.declared.FitResultRow.{FitResultRow}
 use Rattle.fit_runs.specs.declared.Flat.{Flat}
 
@@ -55,12 +55,7 @@ unfoldable pub flat_in64 : List FitResultRow → List Float
 unfolding flat_of
 flat_in64 rows = flat_of rows ++ replicate (384 - length (flat_of rows)) nought
 
--- row i of flat numbers, and the first n
-abbrev pub row_at : List Float → ℕ → FitResultRow
-row_at numbers i =
-    let at = 6 * i in
-    record { mu_1 = get_or numbers at nan; mu_2 = get_or numbers (at + 1) nan; sigma_1 = get_or numbers (at + 2) nan; sigma_2 = get_or numbers (at + 3) nan; p_1 = get_or numbers (at + 4) nan; error = get_or numbers (at + 5) nan }
-
+-- the first n rows of flat numbers
 unfoldable pub rows_at : List Float → ℕ → List FitResultRow
 rows_at numbers zero = []
 rows_at numbers (suc i) = rows_at numbers i ++ (row_at numbers i ∷ [])
@@ -74,7 +69,7 @@ Runnable m weights = (m.n_runs ≤ 64) × (1 ≤ m.n_runs → (rows_of m.epsilon
 abbrev pub put_in : List Float → ℕ → Result (Option FitResultRow) Refusal → List Float
 put_in numbers count (Err e) = numbers
 put_in numbers count (Ok None) = numbers
-put_in numbers count (Ok (Some r)) = take (6 * count) numbers ++ six r ++ drop (6 * count + 6) numbers
+put_in numbers count (Ok (Some r)) = with_row_at numbers count r
 
 -- all runs
 abbrev pub all_runs : M2N → List Float → Flat
