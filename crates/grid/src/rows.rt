@@ -5,10 +5,8 @@ ghost use Rattle.moments.specs.Orders.{centred_sum};
 ghost use Rattle.walk.specs.Walk.{error_of};
 ghost use Rattle.grid.specs.Rows.{all_zero, begun, centred_state, moved, moved_best, moved_state, squares_summed};
 
-use crate::{Best, FitResultRow};
-use moments::Params;
 use crate::FitResultRow;
-use moments::{Centred, Params};
+use moments::Params;
 use walk::M2N;
 
 // The squares, summed as Rust's sum() does, from -0.
