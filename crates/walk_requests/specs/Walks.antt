@@ -1,23 +1,26 @@
 -- The request of a walk, by its words and what they come to, and the reply to a line. Definitions only.
-use Rattle.std.specs.Prelude.{ℕ, ◌-◌, ◌^◌, List, Float, get_or, length, replicate}
+use Rattle.std.specs.Prelude.{ℕ, ◌-◌, ◌^◌, List, Float, get_or, length, replicate, Result, Ok, Err}
 use Rattle.std.specs.Float.{nan}
 use Rattle.float.specs.Constants.{nought}
+use Rattle.refusal.specs.Numbers.{number_of}
+use Rattle.refusal.specs.declared.Refusal as refusal
 use Rattle.text.specs.Decode.{Got}
 use Rattle.protocol.specs.Words.{next_fraction, next_natural}
 use Rattle.protocol_lists.specs.Lists.{fraction_list, in_front, moments_among, next_state, params_among}
 use Rattle.walk.specs.Walk.{walk_of}
 use Rattle.walk.specs.declared.M2N.{M2N}
-use Rattle.walk.specs.declared.Outcome as outcome
+use Rattle.walk.specs.Reasons as reasons
+use Rattle.walk.specs.declared.Ended as ended
 use Rattle.walk.specs.declared.Walked as walked
 use Rattle.replies.specs.Requests.{◌>>=◌, named, reply}
 use Rattle.replies.specs.declared.forms.Reply.{Reply}
 use Rattle.replies.specs.declared.forms.Reply.TheVariants.{Bad, Refused, Walked}
 
 -- how a walk ended, with the state after it, as a reply
-abbrev pub outcome_reply : outcome.Outcome → M2N → Reply
-outcome_reply (outcome.TheVariants.Refused n) m = Refused n
-outcome_reply (outcome.TheVariants.Ended count reason) m =
-    Walked (record { count = count; reason = reason; parameters = m.parameters; error = m.error; new_moments = m.new_moments })
+abbrev pub outcome_reply : Result ended.Ended refusal.Refusal → M2N → Reply
+outcome_reply (Ok e) m =
+    Walked (record { count = e.count; reason = reasons.number_of e.reason; parameters = m.parameters; error = m.error; new_moments = m.new_moments })
+outcome_reply (Err e) m = Refused (number_of e)
 
 abbrev pub walked_reply : walked.Walked → Reply
 walked_reply w = outcome_reply w.outcome w.state

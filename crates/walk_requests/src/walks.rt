@@ -7,7 +7,7 @@ use protocol::Fraction;
 use protocol_lists::{List, State};
 use replies::{Reply, Report};
 use text::Number;
-use walk::{M2N, Outcome, Walked};
+use walk::{M2N, Walked};
 
 pub fn answer(s: &[u8]) -> Reply
     ensures { result ≡ walks s.now }
@@ -71,21 +71,18 @@ fn walk_from(s: &[u8], at: usize, variant: u64, m: [f64; 16], n: usize) -> Reply
     ))
 }
 
-fn reply(w: Walked) -> Reply
-    ensures { result ≡ walked_reply w }
+fn reply(walked: Walked) -> Reply
+    ensures { result ≡ walked_reply walked }
 {
-    let m = w.state;
-    let o = w.outcome;
-    let parameters = m.parameters;
-    let new_moments = m.new_moments;
-    match o {
-        Outcome::Refused(number) => Reply::Refused(number),
-        Outcome::Ended(count, reason) => Reply::Walked(Report {
-            count: count as u64,
-            reason: reason,
-            parameters: parameters,
+    let Walked { state: m, outcome } = walked;
+    match outcome {
+        Ok(ended) => Reply::Walked(Report {
+            count: ended.count as u64,
+            reason: u64::from(ended.reason),
+            parameters: m.parameters,
             error: m.error,
-            new_moments: new_moments,
+            new_moments: m.new_moments,
         }),
+        Err(e) => Reply::Refused(u64::from(e)),
     }
 }
