@@ -77,6 +77,7 @@ fn moved_back(m: M2N, p: Params) -> Params
 }
 
 // The error of parameters, against at most five of the state's moments.
+#[tactic(auto, using(crate::proofs::Sums::error_is))]
 fn moment_error(m: M2N, p: Params) -> f64
     ensures { result ≡ error_of m (get_moments p) }
 {
