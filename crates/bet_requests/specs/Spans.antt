@@ -1,10 +1,10 @@
 -- The requests of the counts and the budget over spans: their words, the reply to a line, and what the lent list holds after it. Definitions only.
-use Rattle.std.specs.Prelude.{ℕ, ◌-◌, ◌/◌, ◌^◌, min, Bool, true, false, cond, List, ◌++◌, ℤ, Float, drop, length, take}
+use Rattle.std.specs.Prelude.{ℕ, ◌-◌, ◌/◌, ◌^◌, min, Bool, true, false, cond, Result, Ok, Err, List, ◌++◌, ℤ, Float, drop, length, take}
 use Rattle.budget.specs.Budget.{budget_sizes}
 use Rattle.bet_sizing.specs.Counts.{concurrent_counts}
-use Rattle.bet_sizing.specs.Refusals.{list_after, outcome, spans_refusal}
-use Rattle.bet_sizing.specs.declared.Outcome.{Outcome}
-use Rattle.bet_sizing.specs.declared.Outcome.TheVariants.{Unwritten, Written}
+use Rattle.bet_sizing.specs.Refusals.{list_after, spans_refusal}
+use Rattle.refusal.specs.Numbers.{number_of, unless_refused}
+use Rattle.refusal.specs.declared.Refusal.{Refusal}
 use Rattle.text.specs.Decode.{Got, got}
 use Rattle.protocol.specs.Words.{next_natural}
 use Rattle.protocol_lists.specs.Lists.{fraction_list, instant_list}
@@ -38,25 +38,25 @@ asked size = do
   sides ← fraction_list
   reply (asked_of room from (take 4096 starts) (take 4096 ends) (take 4096 sides))
 
--- the number of the refusal, 0 for none, where the answer has so many places
-abbrev pub refusal : Asked → ℕ → ℕ
+-- what is turned away where the answer has so many places
+abbrev pub refusal : Asked → ℕ → Result (Unit {0}) Refusal
 refusal a places = spans_refusal (length a.starts) (length a.ends) (length a.sides) (min a.room places)
 
 -- what the library answers, as a reply: a row for each span
-abbrev pub rows : ℕ → Asked → Outcome → Reply
-rows columns a (Unwritten number) = Refused number
-rows columns a (Written count) = Spanned (record { count = count; columns = columns; starts = a.from })
+abbrev pub rows : ℕ → Asked → Result ℕ Refusal → Reply
+rows columns a (Err e) = Refused (number_of e)
+rows columns a (Ok count) = Spanned (record { count = count; columns = columns; starts = a.from })
 
 -- a list after the answer: new fractions in front, or as it was where the answer is a refusal
-abbrev pub column : ℕ → Asked → List Float → List Float → List Float
-column number a new old = list_after number (length a.starts) new old
+abbrev pub column : Result (Unit {0}) Refusal → Asked → List Float → List Float → List Float
+column checked a new old = list_after checked (length a.starts) new old
 
 -- the counts are two columns, the longs in the first half of the lent list and the shorts in the second
-abbrev pub sides_refusal : ℕ → Asked → ℕ
+abbrev pub sides_refusal : ℕ → Asked → Result (Unit {0}) Refusal
 sides_refusal n a = refusal a (n / 2)
 
 abbrev pub sides_reply : ℕ → Asked → Reply
-sides_reply n a = rows 2 a (outcome (sides_refusal n a) (length a.starts))
+sides_reply n a = rows 2 a (unless_refused (sides_refusal n a) (length a.starts))
 
 abbrev pub sides_in : List Float → Asked → List Float
 sides_in xs a =
@@ -65,7 +65,7 @@ sides_in xs a =
 
 -- the sizes are one column
 abbrev pub sizes_reply : ℕ → Asked → Reply
-sizes_reply n a = rows 1 a (outcome (refusal a n) (length a.starts))
+sizes_reply n a = rows 1 a (unless_refused (refusal a n) (length a.starts))
 
 abbrev pub sizes_in : List Float → Asked → List Float
 sizes_in xs a = column (refusal a (length xs)) a (budget_sizes a.starts a.ends a.sides) xs

@@ -1,11 +1,10 @@
 // Requests of the counts and the budget over spans. A side has 17 bytes of a line, so a line has
 // fewer than 4,096 of them. More starts or ends are unequal to them in number, also when cut to their
 // 4,096 places.
-ghost use Rattle.std.specs.Prelude.{◌≤◌, ◌++◌, ◌≡◌, drop, length};
+ghost use Rattle.std.specs.Prelude.{◌≤◌, ◌≡◌, drop, length};
 ghost use Rattle.bet_requests.specs.Spans.{asked_of, left_by, reply_of, sides_in, sides_reply, sizes_in, sizes_reply, spans, spans_in, words};
 ghost use Rattle.replies.specs.Requests.{only, only_or};
 
-use bet_sizing::Outcome;
 use protocol_lists::List;
 use replies::{Reply, SpanRows};
 use text::Number;
@@ -104,31 +103,18 @@ fn sides_reply(
         × (xs.new ≡ sides_in xs.old (asked_of room from starts.now ends.now sides.now)) }
 {
     let half = xs.len() / 2;
-    let places = protocol::least(room, half);
+    let places = room.min(half);
     let mut short = fractions_room();
-    let r = bet_sizing::get_concurrent_sides(starts, ends, sides, &mut xs[..places], &mut short);
-    match r {
-        Outcome::Unwritten(number) => Reply::Refused(number),
-        Outcome::Written(count) => {
-            copy(&short[..count], &mut xs[half..]);
+    match bet_sizing::get_concurrent_sides(starts, ends, sides, &mut xs[..places], &mut short) {
+        Ok(count) => {
+            xs[half..half + count].copy_from_slice(&short[..count]);
             Reply::Spanned(SpanRows {
-                count: count,
+                count,
                 columns: 2,
                 starts: from,
             })
         }
-    }
-}
-
-// Copies x to the front of y.
-fn copy(x: &[f64], y: &mut [f64])
-    requires { length x.now ≤ length y.old }
-    ensures { y.new ≡ x.now ++ drop (length x.now) y.old }
-{
-    let mut i = 0;
-    while i < x.len() {
-        y[i] = x[i];
-        i += 1;
+        Err(refusal) => Reply::Refused(u64::from(refusal)),
     }
 }
 
@@ -143,14 +129,13 @@ fn sizes_reply(
     ensures { (result ≡ sizes_reply (length xs.old) (asked_of room from starts.now ends.now sides.now))
         × (xs.new ≡ sizes_in xs.old (asked_of room from starts.now ends.now sides.now)) }
 {
-    let places = protocol::least(room, xs.len());
-    let r = budget::bet_size_budget(starts, ends, sides, &mut xs[..places]);
-    match r {
-        Outcome::Unwritten(number) => Reply::Refused(number),
-        Outcome::Written(count) => Reply::Spanned(SpanRows {
-            count: count,
+    let places = room.min(xs.len());
+    match budget::bet_size_budget(starts, ends, sides, &mut xs[..places]) {
+        Ok(count) => Reply::Spanned(SpanRows {
+            count,
             columns: 1,
             starts: from,
         }),
+        Err(refusal) => Reply::Refused(u64::from(refusal)),
     }
 }

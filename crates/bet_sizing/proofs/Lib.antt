@@ -1,7 +1,5 @@
 pub mod Collecting
 pub mod Filling
-pub mod Halves
-pub mod Merging
 pub mod Netting
 pub mod Ranks
 pub mod Refusing

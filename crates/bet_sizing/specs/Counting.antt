@@ -1,11 +1,12 @@
 -- How the counts are made: the starts and ends of a side's spans as sorted keys, whose ranks differ by the live spans. Definitions only, which the private functions promise each other.
 use Rattle.std.specs.Prelude.{ℕ, ◌+◌, ◌-◌, ◌≤◌, ◌<◌, ◌≡◌, Bool, ◌&&◌, List, [], ◌∷◌, ◌++◌, map, leb, length, take, drop, get_or, ℤ, pos, Float}
 use Rattle.std.specs.Int.Signed.{lt_z}
+use Rattle.std.specs.List.Sorted.{IsNonDecreasing}
 use Rattle.std.specs.Int.{w64}
 use Rattle.std.proofs.Common.{SFits}
 use Rattle.float.specs.Keys.{key_of}
 use Rattle.bet_sizing.specs.Counts.{indicator, on_side, whole, concurrent_counts}
-use Rattle.bet_sizing.specs.Sorting.{rank, Sorted}
+use Rattle.bet_sizing.specs.Sorting.{rank}
 
 -- of the spans of a side that end after they start, all others being never live, how many have a start, or an end, up to the key x
 unfoldable pub begun : Bool → ℕ → List ℤ → List ℤ → List Float → ℕ
@@ -27,14 +28,13 @@ pub record Collectable (ss es : List ℤ) (ds : List Float) (s e : List ℕ) : T
   pub room_s : length ss ≤ length s
   pub room_e : length ss ≤ length e
 
--- the same, few enough, with room to sort and for the counts
-pub record AcceptedIn (ss es : List ℤ) (ds : List Float) (s e t : List ℕ) (out : List Float) : Type 0 where
+-- the same, few enough, with room for the counts
+pub record AcceptedIn (ss es : List ℤ) (ds : List Float) (s e : List ℕ) (out : List Float) : Type 0 where
   pub ends : length ss ≡ length es
   pub sides : length ss ≡ length ds
   pub few : length ss ≤ 16384
   pub room_s : length ss ≤ length s
   pub room_e : length ss ≤ length e
-  pub room_t : length ss ≤ length t
   pub room : length ss ≤ length out
 
 -- the keys of the starts and ends of the m spans of a side that are ever live
@@ -51,8 +51,8 @@ net s e t = rank (key_of t) s - rank (key_of t) e
 
 -- sorted keys, few enough, and room for the counts
 pub record Nettable (ss : List ℤ) (s e : List ℕ) (out : List Float) : Type 0 where
-  pub starts : Sorted s
-  pub ends : Sorted e
+  pub starts : IsNonDecreasing s
+  pub ends : IsNonDecreasing e
   pub few_starts : length s ≤ 16384
   pub few_ends : length e ≤ 16384
   pub room : length ss ≤ length out

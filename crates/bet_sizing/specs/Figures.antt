@@ -1,8 +1,9 @@
 -- Document 01's sheet, and the misreadings that it names, computed through the definitions.
-use Rattle.std.specs.Prelude.{◌≡◌, refl, true, false, List, [], ◌∷◌, map, ℤ, pos, negsuc, Float}
+use Rattle.std.specs.Prelude.{◌≡◌, refl, true, false, Ok, Err, List, [], ◌∷◌, map, ℤ, pos, negsuc, Float}
 use Rattle.std.specs.Float.{nan, binary64}
 use Rattle.std.specs.Float.Ieee.{of_bits, lt}
 use Rattle.float.specs.Constants.{nought}
+use Rattle.refusal.specs.declared.Refusal.TheVariants.{TooLittleRoom, TooLarge, UnequalLengths}
 use Rattle.bet_sizing.specs.Counts.{concurrent, live}
 use Rattle.bet_sizing.specs.Refusals.{spans_refusal}
 
@@ -37,5 +38,5 @@ unfolding concurrent lt
 flat_sides = refl
 
 -- the refusals, in their order
-refusals : (spans_refusal 16385 3 16385 0 ∷ spans_refusal 16385 16385 16385 0 ∷ spans_refusal 4 4 4 3 ∷ spans_refusal 4 4 4 4 ∷ []) ≡ 10 ∷ 11 ∷ 8 ∷ 0 ∷ []
+refusals : (spans_refusal 16385 3 16385 0 ∷ spans_refusal 16385 16385 16385 0 ∷ spans_refusal 4 4 4 3 ∷ spans_refusal 4 4 4 4 ∷ []) ≡ Err UnequalLengths ∷ Err TooLarge ∷ Err TooLittleRoom ∷ Ok tt ∷ []
 refusals = refl

@@ -1,12 +1,13 @@
 // How many spans of each side are live at each span's start: starts up to then less ends up to
 // then, each found by its rank in a sorted list.
-ghost use Rattle.std.specs.Prelude.{◌≡◌, ◌&&◌, ◌-◌};
+ghost use Rattle.std.specs.Prelude.{◌≡◌, ◌&&◌};
 ghost use Rattle.std.specs.Int.Signed.{lt_z};
 ghost use Rattle.bet_sizing.specs.Counting.{Accepted, AcceptedIn, Collectable, Collected, Counted, Nettable, Netted};
-ghost use Rattle.bet_sizing.specs.Counts.{indicator, on_side};
+ghost use Rattle.bet_sizing.specs.Counts.{on_side};
 ghost use Rattle.bet_sizing.specs.Refusals.{ConcurrentSides};
 
-use crate::{Outcome, refusals, sorting};
+use crate::{refusals, sorting};
+use refusal::Refusal;
 
 // Whether a side is the one that is asked for.
 fn on_side(long: bool, side: f64) -> bool
@@ -16,27 +17,11 @@ fn on_side(long: bool, side: f64) -> bool
     if long { up } else { !up }
 }
 
-// a - b, or 0 where b is the larger.
-fn saturating_sub(a: usize, b: usize) -> usize
-    ensures { result ≡ a - b }
+// Whether a span is of the side that is asked for and ends after it starts.
+fn ever_live(long: bool, start: i64, end: i64, side: f64) -> bool
+    ensures { result ≡ (lt_z start end && on_side long side) }
 {
-    if a < b {
-        return 0;
-    }
-    a - b
-}
-
-// 1 if a span is of the side that is asked for and ends after it starts, else 0.
-fn ever_live(long: bool, start: i64, end: i64, side: f64) -> usize
-    ensures { result ≡ indicator (lt_z start end && on_side long side) }
-{
-    if start < end {
-        if on_side(long, side) {
-            return 1;
-        }
-        return 0;
-    }
-    0
+    start < end && on_side(long, side)
 }
 
 // Writes the keys of the starts and of the ends of a side's spans that are ever live, and answers
@@ -52,15 +37,11 @@ fn collect(
     requires { Collectable starts.now ends.now sides.now s.old e.old }
     ensures { Collected long starts.now ends.now sides.now s.new e.new result }
 {
-    let mut m: usize = 0;
-    let mut i: usize = 0;
-    while i < starts.len() {
-        let a = starts[i];
-        let b = ends[i];
-        s[m] = number::key(a);
-        e[m] = number::key(b);
-        m += ever_live(long, a, b, sides[i]);
-        i += 1;
+    let mut m = 0;
+    for i in 0..starts.len() {
+        s[m] = number::key(starts[i]);
+        e[m] = number::key(ends[i]);
+        m += usize::from(ever_live(long, starts[i], ends[i], sides[i]));
     }
     m
 }
@@ -70,16 +51,14 @@ fn net_counts(starts: &[i64], s: &[u64], e: &[u64], out: &mut [f64])
     requires { Nettable starts.now s.now e.now out.old }
     ensures { Netted starts.now s.now e.now out.old out.new }
 {
-    let mut i: usize = 0;
-    while i < starts.len() {
+    for i in 0..starts.len() {
         let k = number::key(starts[i]);
-        let c = saturating_sub(sorting::rank_of(s, k), sorting::rank_of(e, k)) as u32;
-        out[i] = c as f64;
-        i += 1;
+        let count = sorting::rank_of(s, k).saturating_sub(sorting::rank_of(e, k));
+        out[i] = count as u32 as f64;
     }
 }
 
-// Writes for each span the number of a side live at its start, with s, e and t for room.
+// Writes for each span the number of a side live at its start, with s and e for room.
 fn count_side_in(
     long: bool,
     starts: &[i64],
@@ -87,16 +66,17 @@ fn count_side_in(
     sides: &[f64],
     s: &mut [u64],
     e: &mut [u64],
-    t: &mut [u64],
     out: &mut [f64],
 )
-    requires { AcceptedIn starts.now ends.now sides.now s.old e.old t.old out.old }
+    requires { AcceptedIn starts.now ends.now sides.now s.old e.old out.old }
     ensures { Counted long starts.now ends.now sides.now out.old out.new }
 {
     let m = collect(long, starts, ends, sides, s, e);
-    sorting::sort(&mut s[..m], t);
-    sorting::sort(&mut e[..m], t);
-    net_counts(starts, &s[..m], &e[..m], out);
+    let s = &mut s[..m];
+    let e = &mut e[..m];
+    s.sort_unstable();
+    e.sort_unstable();
+    net_counts(starts, s, e, out);
 }
 
 // The same, with rooms of its own, apart for shorter proofs.
@@ -106,8 +86,7 @@ fn count_side(long: bool, starts: &[i64], ends: &[i64], sides: &[f64], out: &mut
 {
     let mut s = [0u64; 16384];
     let mut e = [0u64; 16384];
-    let mut t = [0u64; 16384];
-    count_side_in(long, starts, ends, sides, &mut s, &mut e, &mut t, out);
+    count_side_in(long, starts, ends, sides, &mut s, &mut e, out);
 }
 
 // Writes for each span how many are live at its start, the long and the short.
@@ -117,15 +96,12 @@ pub fn get_concurrent_sides(
     sides: &[f64],
     long: &mut [f64],
     short: &mut [f64],
-) -> Outcome
+) -> Result<usize, Refusal>
     ensures { ConcurrentSides starts.now ends.now sides.now long.old long.new short.old short.new result }
 {
-    let room = refusals::smaller(long.len(), short.len());
-    let number = refusals::spans(starts.len(), ends.len(), sides.len(), room);
-    if number != 0 {
-        return Outcome::Unwritten(number);
-    }
+    let room = long.len().min(short.len());
+    refusals::check_spans(starts.len(), ends.len(), sides.len(), room)?;
     count_side(true, starts, ends, sides, long);
     count_side(false, starts, ends, sides, short);
-    Outcome::Written(starts.len())
+    Ok(starts.len())
 }

@@ -1,12 +1,13 @@
 -- The budget size of chapter 10 of Advances in Financial Machine Learning: the live longs over their largest number, less the same of the shorts; the Rust's bet_size_budget, line by line. Definitions only.
-use Rattle.std.specs.Prelude.{ℕ, ◌≡◌, true, false, cond, List, [], ◌∷◌, map, ℤ, Float, length}
+use Rattle.std.specs.Prelude.{ℕ, ◌≡◌, true, false, cond, Result, List, [], ◌∷◌, map, ℤ, Float, length}
 use Rattle.std.specs.Float.{binary64}
 use Rattle.std.specs.Float.Ieee.{div, lt, sub}
 use Rattle.float.specs.Constants.{nought}
 use Rattle.float.specs.Leaves.{larger_of}
 use Rattle.bet_sizing.specs.Counts.{concurrent, concurrent_counts, whole}
-use Rattle.bet_sizing.specs.Refusals.{list_after, outcome, spans_refusal}
-use Rattle.bet_sizing.specs.declared.Outcome.{Outcome}
+use Rattle.bet_sizing.specs.Refusals.{list_after, spans_refusal}
+use Rattle.refusal.specs.Numbers.{unless_refused}
+use Rattle.refusal.specs.declared.Refusal.{Refusal}
 
 -- the larger of a number and of counts, one after another
 unfoldable pub largest_from : Float → List Float → Float
@@ -32,11 +33,11 @@ budget_size ss es ds t =
 abbrev pub budget_sizes : List ℤ → List ℤ → List Float → List Float
 budget_sizes ss es ds = map (budget_size ss es ds) ss
 
--- the number of the refusal, 0 for none
-abbrev pub budget_refusal : List ℤ → List ℤ → List Float → List Float → ℕ
+-- what it turns away
+abbrev pub budget_refusal : List ℤ → List ℤ → List Float → List Float → Result (Unit {0}) Refusal
 budget_refusal ss es ds size = spans_refusal (length ss) (length es) (length ds) (length size)
 
 -- bet_size_budget: its answer, and the lent list before and after it
-pub record BetSizeBudget (ss es : List ℤ) (ds size size' : List Float) (answer : Outcome) : Type 0 where
-  pub answered : answer ≡ outcome (budget_refusal ss es ds size) (length ss)
+pub record BetSizeBudget (ss es : List ℤ) (ds size size' : List Float) (answer : Result ℕ Refusal) : Type 0 where
+  pub answered : answer ≡ unless_refused (budget_refusal ss es ds size) (length ss)
   pub sizes : size' ≡ list_after (budget_refusal ss es ds size) (length ss) (budget_sizes ss es ds) size

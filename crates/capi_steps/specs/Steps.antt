@@ -1,15 +1,11 @@
 -- What the C functions of a step answer, and what they leave in the lent places. Definitions only.
-use Rattle.std.specs.Prelude.{◌≡◌, cond, List, ℕ, ltb, length, Float}
-use Rattle.iterate.specs.declared.Iterate.{Iterate}
-use Rattle.iterate.specs.declared.Iterate.TheVariants.{Refused, Stepped}
+use Rattle.std.specs.Prelude.{◌≡◌, cond, List, ℕ, ltb, length, Float, Result, Ok, Err}
+use Rattle.refusal.specs.Numbers.{status_of}
+use Rattle.refusal.specs.declared.Refusal.{Refusal}
+use Rattle.refusal.specs.declared.Refusal.TheVariants.{TooLittleRoom}
 use Rattle.step.specs.declared.Step.{Step}
 use Rattle.step.specs.declared.Step.TheVariants.{Admitted, Inadmissible}
 use Rattle.capi_states.specs.States.{with_params}
-
--- no refusal has the number 0, so 0 stands for none
-abbrev pub number_of : Iterate → ℕ
-number_of (Refused n) = n
-number_of (Stepped s) = 0
 
 -- how many steps are admitted, and where the five numbers of one go
 abbrev pub count_if : Step → ℕ
@@ -20,19 +16,19 @@ abbrev pub with_step : List Float → Step → List Float
 with_step before Inadmissible = before
 with_step before (Admitted p) = with_params before p
 
--- a step has five numbers: with fewer places it is refused by 8, inadmissible or not
-abbrev pub roomed : Iterate → List Float → Iterate
-roomed (Refused n) numbers = Refused n
-roomed (Stepped s) numbers = cond (ltb (length numbers) 5) (Refused 8) (Stepped s)
+-- a step has five numbers: with fewer places it is refused, inadmissible or not
+abbrev pub roomed : Result Step Refusal → List Float → Result Step Refusal
+roomed (Ok s) numbers = cond (ltb (length numbers) 5) (Err TooLittleRoom) (Ok s)
+roomed (Err e) numbers = Err e
 
 -- what stands in the lent places after: a refusal leaves them as they were
-abbrev pub admitted_after : Iterate → ℕ → ℕ
-admitted_after (Refused n) before = before
-admitted_after (Stepped s) before = count_if s
+abbrev pub admitted_after : Result Step Refusal → ℕ → ℕ
+admitted_after (Ok s) before = count_if s
+admitted_after (Err e) before = before
 
-abbrev pub numbers_after : Iterate → List Float → List Float
-numbers_after (Refused n) before = before
-numbers_after (Stepped s) before = with_step before s
+abbrev pub numbers_after : Result Step Refusal → List Float → List Float
+numbers_after (Ok s) before = with_step before s
+numbers_after (Err e) before = before
 
-abbrev pub StepLeaves : Iterate → ℕ → List Float → ℕ → ℕ → List Float → Type 0
-StepLeaves i admitted numbers answer admitted' numbers' = (answer ≡ number_of i) × (admitted' ≡ admitted_after i admitted) × (numbers' ≡ numbers_after i numbers)
+abbrev pub StepLeaves : Result Step Refusal → ℕ → List Float → ℕ → ℕ → List Float → Type 0
+StepLeaves r admitted numbers answer admitted' numbers' = (answer ≡ status_of r) × (admitted' ≡ admitted_after r admitted) × (numbers' ≡ numbers_after r numbers)

@@ -4,22 +4,13 @@
 
 ghost use Rattle.std.specs.Prelude.{◌≡◌, ◌≤◌, length};
 ghost use Rattle.iterate.specs.Refusals.{iter4, iter5};
-ghost use Rattle.capi_steps.specs.Steps.{StepLeaves, count_if, number_of, roomed, with_step};
+ghost use Rattle.refusal.specs.Numbers.{status_of};
+ghost use Rattle.capi_steps.specs.Steps.{StepLeaves, count_if, roomed, with_step};
 ghost use Rattle.capi_steps.specs.Walks.{WalkLeaves, outcome_of, refusal_of, walked};
 
-use iterate::Iterate;
+use refusal::Refusal;
 use step::Step;
 use walk::{M2N, Outcome};
-
-// Nothing is refused by 0, so 0 stands for no refusal.
-fn refusal_of(i: Iterate) -> u64
-    ensures { result ≡ number_of i }
-{
-    match i {
-        Iterate::Refused(n) => n,
-        Iterate::Stepped(_) => 0,
-    }
-}
 
 // How many steps are admitted, 1 or 0; where none, the lent numbers stay as they were.
 fn leave_step(s: Step, numbers: &mut [f64]) -> usize
@@ -33,18 +24,20 @@ fn leave_step(s: Step, numbers: &mut [f64]) -> usize
     1
 }
 
-// Leaves what a step answers in the lent places; 8 where there are fewer than five numbers.
-fn leave(i: Iterate, admitted: &mut usize, numbers: &mut [f64]) -> u64
-    ensures { StepLeaves (roomed i numbers.old) admitted.old numbers.old result admitted.new numbers.new }
+// Leaves what a step answers in the lent places, of which five are needed.
+fn leave(
+    answer: Result<Step, Refusal>,
+    admitted: &mut usize,
+    numbers: &mut [f64],
+) -> Result<(), Refusal>
+    ensures { StepLeaves (roomed answer numbers.old) admitted.old numbers.old (status_of result) admitted.new numbers.new }
 {
-    let Iterate::Stepped(s) = i else {
-        return refusal_of(i);
-    };
+    let s = answer?;
     if numbers.len() < 5 {
-        return 8;
+        return Err(Refusal::TooLittleRoom);
     }
     *admitted = leave_step(s, numbers);
-    0
+    Ok(())
 }
 
 // One step on four moments (M2N::iter_4). `admitted` becomes 1 and `numbers` takes mu_1, mu_2, sigma_1,
@@ -59,8 +52,8 @@ pub extern "C" fn woddirme_iter_4(
 ) -> u64
     ensures { StepLeaves (roomed (iter4 moments.now mu_2 p_1) numbers.old) admitted.old numbers.old result admitted.new numbers.new }
 {
-    let i = iterate::iter_4(moments, mu_2, p_1);
-    leave(i, admitted, numbers)
+    let answer = iterate::iter_4(moments, mu_2, p_1);
+    refusal::status_of(leave(answer, admitted, numbers))
 }
 
 // One step on five moments (M2N::iter_5), as woddirme_iter_4.
@@ -74,8 +67,8 @@ pub extern "C" fn woddirme_iter_5(
 ) -> u64
     ensures { StepLeaves (roomed (iter5 moments.now mu_2 p_1) numbers.old) admitted.old numbers.old result admitted.new numbers.new }
 {
-    let i = iterate::iter_5(moments, mu_2, p_1);
-    leave(i, admitted, numbers)
+    let answer = iterate::iter_5(moments, mu_2, p_1);
+    refusal::status_of(leave(answer, admitted, numbers))
 }
 
 // As refusal_of, for a walk.

@@ -1,21 +1,17 @@
 -- Document 01's starred figures as one table, in its order and under its words, and the statement that every one of them holds.
 -- A row's left side is the definition that the contract of the function names, on the figure's arguments. So a row is a fact about
 -- the code: `iter_4` ensures r ≡ iter4 .., and answers what stands on the right of the rows of iter4.
-use Rattle.std.specs.Prelude.{◌≡◌, refl, true, false, List, [], ◌∷◌, ℕ, ◌+◌, ◌*◌, Float, replicate}
+use Rattle.std.specs.Prelude.{◌≡◌, refl, true, false, List, [], ◌∷◌, ℕ, ◌+◌, ◌*◌, Float, replicate, Ok, Result}
 use Rattle.std.specs.Float.{nan, inf, binary64}
 use Rattle.std.specs.Float.Ieee.{round, of_bits}
 use Rattle.moments.specs.Mixture.{get_moments}
 use Rattle.moments.specs.Refusals.{centred_moment, raw_moment, raw_out}
-use Rattle.moments.specs.declared.Centred.TheVariants.{Value}
 use Rattle.moments.specs.declared.Five.{Five}
 use Rattle.moments.specs.declared.Params.{Params}
-use Rattle.moments.specs.declared.Remade.TheVariants.{Written}
 use Rattle.prices.specs.Prices.{get_w_sigmoid, inv_price_sigmoid}
 use Rattle.limit_price.specs.LimitPrice.{limit_price_sigmoid}
-use Rattle.limit_price.specs.declared.Limit.{Limit}
-use Rattle.limit_price.specs.declared.Limit.TheVariants.{Price}
+use Rattle.refusal.specs.declared.Refusal.{Refusal}
 use Rattle.iterate.specs.Refusals.{iter4, iter5}
-use Rattle.iterate.specs.declared.Iterate.TheVariants.{Stepped}
 use Rattle.step.specs.declared.Step.TheVariants.{Admitted, Inadmissible}
 
 -- ---- how the rows are written
@@ -62,7 +58,7 @@ abbrev pub two_five : List Float
 two_five = listed (2 · 0, 5 · 0, 14 · 0, 41 · 0, 122 · 0)
 
 -- a limit price with forecast 100, width 3, limit 2, from 0
-abbrev pub limit_price_to : Float → Limit
+abbrev pub limit_price_to : Float → Result Float Refusal
 limit_price_to t = limit_price_sigmoid t (0 · 0) (100 · 0) (3 · 0) (2 · 0)
 
 -- ---- the table
@@ -73,34 +69,34 @@ table =
     -- Of (0, 2, 1, 2, 0.5): M = 1, 4.5, 16, 81.5, 416.
     ∷ get_moments (params (0 · 0, 2 · 0, 1 · 0, 2 · 0, 0 · 5)) ⇒ five M
     -- Centred 2, 3, 4, 5 of (2, 5, 14, 41, 122): 1, 0, 1, 0.
-    ∷ centred_moment two_five 2 ⇒ Value (1 · 0)
-    ∷ centred_moment two_five 3 ⇒ Value (0 · 0)
-    ∷ centred_moment two_five 4 ⇒ Value (1 · 0)
-    ∷ centred_moment two_five 5 ⇒ Value (0 · 0)
+    ∷ centred_moment two_five 2 ⇒ Ok (1 · 0)
+    ∷ centred_moment two_five 3 ⇒ Ok (0 · 0)
+    ∷ centred_moment two_five 4 ⇒ Ok (1 · 0)
+    ∷ centred_moment two_five 5 ⇒ Ok (0 · 0)
     -- `raw_moment` of (0, 1, 0, 1, 0), mean 2: 2, 5, 14, 41, 122. Of none, mean 2: 2. (How many it writes, and the lent list after it.)
-    ∷ raw_moment (listed (0 · 0, 1 · 0, 0 · 0, 1 · 0, 0 · 0)) (replicate 5 nan) ⇒ Written 5
+    ∷ raw_moment (listed (0 · 0, 1 · 0, 0 · 0, 1 · 0, 0 · 0)) (replicate 5 nan) ⇒ Ok 5
     ∷ raw_out (listed (0 · 0, 1 · 0, 0 · 0, 1 · 0, 0 · 0)) (2 · 0) (replicate 5 nan) ⇒ two_five
-    ∷ raw_moment [] (nan ∷ []) ⇒ Written 1
+    ∷ raw_moment [] (nan ∷ []) ⇒ Ok 1
     ∷ raw_out [] (2 · 0) (nan ∷ []) ⇒ (2 · 0 ∷ [])
     -- `iter_4` and `iter_5` on M from mean 2, weight 0.5: (0, 2, 1, 2, 0.5).
-    ∷ iter4 (listed M) (2 · 0) (0 · 5) ⇒ Stepped (Admitted (params (0 · 0, 2 · 0, 1 · 0, 2 · 0, 0 · 5)))
-    ∷ iter5 (listed M) (2 · 0) (0 · 5) ⇒ Stepped (Admitted (params (0 · 0, 2 · 0, 1 · 0, 2 · 0, 0 · 5)))
+    ∷ iter4 (listed M) (2 · 0) (0 · 5) ⇒ Ok (Admitted (params (0 · 0, 2 · 0, 1 · 0, 2 · 0, 0 · 5)))
+    ∷ iter5 (listed M) (2 · 0) (0 · 5) ⇒ Ok (Admitted (params (0 · 0, 2 · 0, 1 · 0, 2 · 0, 0 · 5)))
     -- Both on (2, 18, 128, 1304, 13312) from mean 4, weight 0.5: (0, 4, 2, 4, 0.5).
-    ∷ iter4 (listed (2 · 0, 18 · 0, 128 · 0, 1304 · 0, 13312 · 0)) (4 · 0) (0 · 5) ⇒ Stepped (Admitted (params (0 · 0, 4 · 0, 2 · 0, 4 · 0, 0 · 5)))
-    ∷ iter5 (listed (2 · 0, 18 · 0, 128 · 0, 1304 · 0, 13312 · 0)) (4 · 0) (0 · 5) ⇒ Stepped (Admitted (params (0 · 0, 4 · 0, 2 · 0, 4 · 0, 0 · 5)))
+    ∷ iter4 (listed (2 · 0, 18 · 0, 128 · 0, 1304 · 0, 13312 · 0)) (4 · 0) (0 · 5) ⇒ Ok (Admitted (params (0 · 0, 4 · 0, 2 · 0, 4 · 0, 0 · 5)))
+    ∷ iter5 (listed (2 · 0, 18 · 0, 128 · 0, 1304 · 0, 13312 · 0)) (4 · 0) (0 · 5) ⇒ Ok (Admitted (params (0 · 0, 4 · 0, 2 · 0, 4 · 0, 0 · 5)))
     -- Both on (0, 1, 0, 3, 0) from mean 0, weight 0.5: inadmissible.
-    ∷ iter4 (listed (0 · 0, 1 · 0, 0 · 0, 3 · 0, 0 · 0)) (0 · 0) (0 · 5) ⇒ Stepped Inadmissible
-    ∷ iter5 (listed (0 · 0, 1 · 0, 0 · 0, 3 · 0, 0 · 0)) (0 · 0) (0 · 5) ⇒ Stepped Inadmissible
+    ∷ iter4 (listed (0 · 0, 1 · 0, 0 · 0, 3 · 0, 0 · 0)) (0 · 0) (0 · 5) ⇒ Ok Inadmissible
+    ∷ iter5 (listed (0 · 0, 1 · 0, 0 · 0, 3 · 0, 0 · 0)) (0 · 0) (0 · 5) ⇒ Ok Inadmissible
     -- `get_w_sigmoid` of (10, 0.5): 300; of (10, 1): 0.
     ∷ get_w_sigmoid (10 · 0) (0 · 5) ⇒ 300 · 0
     ∷ get_w_sigmoid (10 · 0) (1 · 0) ⇒ 0 · 0
     -- `inv_price_sigmoid` of (100, 3, 0.5): 99.
     ∷ inv_price_sigmoid (100 · 0) (3 · 0) (0 · 5) ⇒ 99 · 0
     -- Limit price, forecast 100, width 3, limit 2, from 0 to 1: 99; to −1: 101; to 2: minus infinity; to 0.9: NaN, since lots are cut towards zero and none is walked.
-    ∷ limit_price_to (1 · 0) ⇒ Price (99 · 0)
-    ∷ limit_price_to minus_one ⇒ Price (101 · 0)
-    ∷ limit_price_to (2 · 0) ⇒ Price (inf true)
-    ∷ limit_price_to (0 · 9) ⇒ Price nan
+    ∷ limit_price_to (1 · 0) ⇒ Ok (99 · 0)
+    ∷ limit_price_to minus_one ⇒ Ok (101 · 0)
+    ∷ limit_price_to (2 · 0) ⇒ Ok (inf true)
+    ∷ limit_price_to (0 · 9) ⇒ Ok nan
     ∷ []
 
 unfoldable pub Figures : Type 0

@@ -6,7 +6,7 @@ ghost use Rattle.walk.specs.Walk.{error_of};
 ghost use Rattle.grid.specs.Rows.{all_zero, begun, centred_state, moved, moved_best, moved_state, squares_summed};
 
 use crate::FitResultRow;
-use moments::{Centred, Params};
+use moments::Params;
 use walk::M2N;
 
 // The squares, summed as Rust's sum() does, from -0.
@@ -36,15 +36,12 @@ pub(crate) fn begin(m: M2N, epsilon: f64) -> M2N
 }
 
 // A centred moment of the state's raw ones.
+#[tactic(auto, using(crate::proofs::Known::unrefused))]
 pub(crate) fn centred(m: M2N, order: usize) -> f64
     requires { order ≤ 16 }
     ensures { result ≡ centred_sum m.moments order }
 {
-    let c = moments::centered_moment(&m.moments, order);
-    match c {
-        Centred::Value(x) => x,
-        Centred::Refused(_) => 0.0,
-    }
+    moments::centered_moment(&m.moments, order).unwrap()
 }
 
 // The inner fit of a search about the mean: five centred moments, the first set to 0.

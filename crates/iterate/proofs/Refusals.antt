@@ -1,16 +1,51 @@
--- The refusals, by their tests, for a step that needs n of l moments. Assumes nothing.
+-- A step on the moments that `read` answers, for a step that needs n of l moments. Assumes nothing.
 use mathlib.Core.Path.{◌≡◌}
+use mathlib.Core.List.{List, [], ◌∷◌}
 use Prim.Native.Nat.{ℕ, ◌≤◌, ◌<◌}
+use native.Mathlib.Omega.{arith}
 use borrow.Author.Tests.{lt-ltb, le-ltb}
+use lib.Ieee.{Float}
+use lib.ListN.{length}
+use Rattle.moments.specs.Figures.{listed}
+use Rattle.moments.specs.declared.Five.{Five}
+use Rattle.std.specs.Prelude.{Result, Ok, Err}
+use Rattle.refusal.specs.Numbers.{unless_refused}
+use Rattle.refusal.specs.declared.Refusal.{Refusal}
+use Rattle.refusal.specs.declared.Refusal.TheVariants.{TooManyMoments}
+use Rattle.step.specs.Steps.{step_4, step_5, first_four}
 use Rattle.step.specs.declared.Step.{Step}
-use Rattle.iterate.specs.Refusals.{step_refusal, step_answer}
-use Rattle.iterate.specs.declared.Iterate.TheVariants.{Refused, Stepped}
+use Rattle.iterate.specs.Refusals.{iter4, iter5, read, step_refusal}
 
-pub few : (n l : ℕ) (r : Step) → l < n → Refused 1 ≡ step_answer (step_refusal n l) r
-few n l r h = rw (lt-ltb l n h)
+module _ {A : Type 0} where
+  pub many : (n l : ℕ) (x : A) → n ≤ l → 16 < l → Err TooManyMoments ≡ unless_refused (step_refusal n l) x
+  many n l x h g = rw (le-ltb l n h, lt-ltb 16 l g)
 
-pub many : (n l : ℕ) (r : Step) → n ≤ l → 16 < l → Refused 2 ≡ step_answer (step_refusal n l) r
-many n l r h g = rw (le-ltb l n h, lt-ltb 16 l g)
+module _ {A B : Type 0} where
+  -- a refusal is passed on, whatever was to be answered
+  pub passed_on : (r : Result (Unit {0}) Refusal) (x : A) (y : B) (e : Refusal) → Err e ≡ unless_refused r x → Err e ≡ unless_refused r y
+  passed_on (Ok u) x y e h = cc
+  passed_on (Err f) x y e h = grind arith
 
-pub taken : (n l : ℕ) (r s : Step) → n ≤ l → l ≤ 16 → r ≡ s → Stepped r ≡ step_answer (step_refusal n l) s
-taken n l r s h g e = rw (le-ltb l n h, le-ltb 16 l g, e)
+  -- what is answered is answered of
+  pub answered_of : (f : A → B) (r : Result (Unit {0}) Refusal) (x y : A) → Ok y ≡ unless_refused r x → Ok (f y) ≡ unless_refused r (f x)
+  answered_of f (Ok u) x y h = grind arith
+  answered_of f (Err e) x y h = cc
+
+pub steps_4 : (m : List Float) (a : Five) (μ p : Float) (s : Step) → Ok a ≡ read m 4 → s ≡ step_4 (a.m_1 ∷ a.m_2 ∷ a.m_3 ∷ a.m_4 ∷ []) μ p → Ok s ≡ iter4 m μ p
+unfolding iter4
+steps_4 [] a μ p s h e = cc
+steps_4 (x ∷ []) a μ p s h e = cc
+steps_4 (x ∷ y ∷ []) a μ p s h e = cc
+steps_4 (x ∷ y ∷ z ∷ []) a μ p s h e = cc
+steps_4 (x ∷ y ∷ z ∷ u ∷ t) a μ p s h e =
+    rw e (answered_of (λ (b : Five). step_4 (first_four (listed b)) μ p) (step_refusal 4 (length (x ∷ y ∷ z ∷ u ∷ t))) _ a h)
+
+pub steps_5 : (m : List Float) (a : Five) (μ p : Float) (s : Step) → Ok a ≡ read m 5 → s ≡ step_5 (listed a) μ p → Ok s ≡ iter5 m μ p
+unfolding iter5
+steps_5 [] a μ p s h e = cc
+steps_5 (x ∷ []) a μ p s h e = cc
+steps_5 (x ∷ y ∷ []) a μ p s h e = cc
+steps_5 (x ∷ y ∷ z ∷ []) a μ p s h e = cc
+steps_5 (x ∷ y ∷ z ∷ u ∷ []) a μ p s h e = cc
+steps_5 (x ∷ y ∷ z ∷ u ∷ v ∷ t) a μ p s h e =
+    rw e (answered_of (λ (b : Five). step_5 (listed b) μ p) (step_refusal 5 (length (x ∷ y ∷ z ∷ u ∷ v ∷ t))) _ a h)

@@ -1,9 +1,9 @@
 -- The requests of moments, each by its words and what they come to; the reply to a line, and what the lent list holds after it. Definitions only.
-use Rattle.std.specs.Prelude.{ℕ, ◌-◌, ◌^◌, List, ◌++◌, Float, drop, take}
+use Rattle.std.specs.Prelude.{ℕ, ◌-◌, ◌^◌, List, ◌++◌, Float, drop, take, Result, Ok, Err}
 use Rattle.moments.specs.Mixture as mixture
 use Rattle.moments.specs.Refusals as refusals
-use Rattle.moments.specs.declared.Centred as centred
-use Rattle.moments.specs.declared.Remade as remade
+use Rattle.refusal.specs.Numbers.{number_of}
+use Rattle.refusal.specs.declared.Refusal as refusal
 use Rattle.text.specs.Decode.{Got}
 use Rattle.protocol.specs.Words.{next_fraction, next_natural}
 use Rattle.protocol_lists.specs.Lists.{fraction_list, fractions, params_among}
@@ -16,9 +16,9 @@ get_moments = do
   v ← fractions 5
   reply (Moments (mixture.get_moments (params_among v)))
 
-abbrev pub centred_reply : centred.Centred → Reply
-centred_reply (centred.TheVariants.Refused number) = Refused number
-centred_reply (centred.TheVariants.Value x) = Fraction x
+abbrev pub centred_reply : Result Float refusal.Refusal → Reply
+centred_reply (Ok x) = Fraction x
+centred_reply (Err e) = Refused (number_of e)
 
 abbrev pub centered_moment : List ℕ → Got Reply
 centered_moment = do
@@ -26,9 +26,9 @@ centered_moment = do
   m ← fraction_list
   reply (centred_reply (refusals.centred_moment m order))
 
-abbrev pub raw_reply : remade.Remade → Reply
-raw_reply (remade.TheVariants.Unwritten number) = Refused number
-raw_reply (remade.TheVariants.Written count) = Listed count count
+abbrev pub raw_reply : Result ℕ refusal.Refusal → Reply
+raw_reply (Ok count) = Listed count count
+raw_reply (Err e) = Refused (number_of e)
 
 -- what comes of raw_moment's words: the room that is asked for, the mean, the centred moments
 module _ {A : Type 0} where

@@ -5,7 +5,7 @@ ghost use Rattle.moments.specs.Refusals as refusals;
 ghost use Rattle.moment_requests.specs.Orders.{centered_moment, centred_reply, get_moments, orders, orders_in, raw_moment, raw_moment_in, raw_reply};
 ghost use Rattle.replies.specs.Requests.{only, only_or};
 
-use moments::{Centred, Params, Remade};
+use moments::Params;
 use protocol::Fraction;
 use protocol_lists::List;
 use replies::Reply;
@@ -51,8 +51,8 @@ fn centred_reply(m: &[f64], n: usize, order: usize) -> Reply
     let k = protocol::least(n, m.len());
     let r = moments::centered_moment(&m[..k], order);
     match r {
-        Centred::Refused(number) => Reply::Refused(number),
-        Centred::Value(x) => Reply::Fraction(x),
+        Ok(x) => Reply::Fraction(x),
+        Err(e) => Reply::Refused(u64::from(e)),
     }
 }
 
@@ -80,8 +80,8 @@ fn raw_reply(c: &[f64], n: usize, mean: f64, room: usize, xs: &mut [f64]) -> Rep
     let places = protocol::least(room, xs.len());
     let r = moments::raw_moment(&c[..k], mean, &mut xs[..places]);
     match r {
-        Remade::Unwritten(number) => Reply::Refused(number),
-        Remade::Written(count) => Reply::Listed(count, count),
+        Ok(count) => Reply::Listed(count, count),
+        Err(e) => Reply::Refused(u64::from(e)),
     }
 }
 

@@ -1,7 +1,7 @@
 -- The loop of `comb`, and number k of a list. Assumes nothing.
 use mathlib.Core.Path.{◌≡◌, refl, sym, ap, ◌∙◌}
 use mathlib.Core.List.{List, ◌∷◌}
-use Prim.Native.Nat.{ℕ, zero, suc, ◌+◌, ◌-◌, ◌≤◌}
+use Prim.Native.Nat.{ℕ, zero, suc, ◌+◌, ◌-◌, ◌≤◌, min}
 use native.Mathlib.Nat.{le_trans}
 use native.Mathlib.Numerals.{add-one}
 use native.Mathlib.Omega.{arith}
@@ -10,7 +10,7 @@ use lib.IntN.{pos}
 use lib.ListN.{get_or}
 use lib.Ieee.{Float, binary64, mul, div, of_int, in_float}
 use borrow.Author.Tests.{le-ltb}
-use Rattle.moments.specs.Comb.{falling, rising, choose, lesser}
+use Rattle.moments.specs.Comb.{falling, rising, choose}
 
 pub small : (x : ℕ) → x ≤ 16 → T (in_float binary64 (pos x))
 unfolding in_float
@@ -24,9 +24,9 @@ pub rising_more : (i : ℕ) (x : Float) → x ≡ rising i → mul binary64 x (o
 unfolding rising
 rising_more i x e = ap (λ (y : Float). mul binary64 y (of_int binary64 (pos (i + 1)))) e ∙ ap (λ (k : ℕ). rising k) (sym (add-one i))
 
-pub chosen : (n k l i : ℕ) (x y : Float) → k ≤ n → l ≡ lesser k (n - k) → i ≡ l → x ≡ falling n i → y ≡ rising i → div binary64 x y ≡ choose n k
+pub chosen : (n k l i : ℕ) (x y : Float) → k ≤ n → l ≡ min k (n - k) → i ≡ l → x ≡ falling n i → y ≡ rising i → div binary64 x y ≡ choose n k
 unfolding choose
-chosen n k l i x y h e f p q = rw (le-ltb n k h) (ap (λ (z : Float). div binary64 z y) (p ∙ ap (falling n) (f ∙ e)) ∙ ap (div binary64 (falling n (lesser k (n - k)))) (q ∙ ap rising (f ∙ e)))
+chosen n k l i x y h e f p q = rw (le-ltb n k h) (ap (λ (z : Float). div binary64 z y) (p ∙ ap (falling n) (f ∙ e)) ∙ ap (div binary64 (falling n (min k (n - k)))) (q ∙ ap rising (f ∙ e)))
 
 -- ---- number k of a list
 pub at_nought : {A : Type 0} (x d : A) (m : List A) (k : ℕ) → k ≡ 0 → x ≡ get_or (x ∷ m) k d

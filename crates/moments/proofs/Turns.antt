@@ -1,4 +1,4 @@
--- The turns of the loops of centered_moment and raw_moment, the lent list, and the refusals in their order. Assumes nothing.
+-- The turns of the loops of centered_moment and raw_moment, and the lent list. Assumes nothing.
 use mathlib.Core.Path.{◌≡◌, refl, sym, ap, ◌∙◌}
 use mathlib.Core.List.{List, [], ◌∷◌, ◌++◌, append_assoc}
 use Prim.Native.Nat.{ℕ, zero, suc, ◌+◌, ◌-◌, ◌≤◌, ◌<◌}
@@ -7,7 +7,6 @@ use native.Mathlib.Numerals.{add-one}
 use lib.ListN.{length, get_or, set, drop, length-append}
 use lib.Seq.{drop-cons, set_at, length_front, length-take-le, drop-set-lt}
 use lib.Ieee.{Float, nan, binary64, add, mul}
-use borrow.Author.Tests.{le-ltb, lt-ltb}
 use Rattle.float.specs.Constants.{nought}
 use Rattle.float.specs.Power.{power}
 use Rattle.formula.specs.Formula.{given, ◌↑◌, eval}
@@ -16,9 +15,8 @@ use Rattle.formula.specs.Whole.{sum_of}
 use Rattle.moments.specs.Comb.{choose}
 use Rattle.moments.specs.Constants.{minus_one}
 use Rattle.moments.specs.Orders.{numbered, centred_term, centred_sum, raw_term, raw_sum, raw_value, firsts}
-use Rattle.moments.specs.Refusals.{at_least_one, centred_moment, raw_moment, raw_out}
-use Rattle.moments.specs.declared.Centred.TheVariants.{Refused, Value}
-use Rattle.moments.specs.declared.Remade.TheVariants.{Unwritten, Written}
+use Rattle.moments.specs.Refusals.{at_least_one, centred_moment, centred_refusal, raw_moment, raw_out, raw_refusal}
+use Rattle.std.specs.Prelude.{Ok}
 
 -- ---- centred moments
 pub centred_start : (m : List Float) (n : ℕ) → nought ≡ eval (numbered m) [] (sum_of (centred_term n) 0)
@@ -33,32 +31,10 @@ centred_turn m n j s x y z w a b c d e =
     (let d' : z ≡ eval (numbered m) [] (given 1 ↑ j) = d ∙ sym (eval_power (numbered m) [] (given 1) j) in
     rw (a, b, c, d', e))
 
-pub centred_9 : (m : List Float) (n : ℕ) → 16 < n → Refused 9 ≡ centred_moment m n
-unfolding centred_moment
-centred_9 m n h = rw (lt-ltb 16 n h)
-
-pub centred_1 : (m : List Float) (n k : ℕ) → n ≤ 16 → k ≡ at_least_one n → length m < k → Refused 1 ≡ centred_moment m n
-unfolding centred_moment
-centred_1 m n k h e g = let g' : length m < at_least_one n = rw e at g in rw (le-ltb 16 n h, lt-ltb (length m) (at_least_one n) g')
-
-pub centred_2 : (m : List Float) (n k : ℕ) → n ≤ 16 → k ≡ at_least_one n → k ≤ length m → 16 < length m → Refused 2 ≡ centred_moment m n
-unfolding centred_moment
-centred_2 m n k h e g f = let g' : at_least_one n ≤ length m = rw e at g in rw (le-ltb 16 n h, le-ltb (length m) (at_least_one n) g', lt-ltb 16 (length m) f)
-
-pub centred_done : (m : List Float) (n k j : ℕ) (s : Float) → n ≤ 16 → k ≡ at_least_one n → k ≤ length m → length m ≤ 16 → j ≡ n + 1 → s ≡ eval (numbered m) [] (sum_of (centred_term n) j) → Value s ≡ centred_moment m n
+pub centred_done : (m : List Float) (n j : ℕ) (s : Float) → Ok tt ≡ centred_refusal (length m) n → j ≡ n + 1 → s ≡ eval (numbered m) [] (sum_of (centred_term n) j) → Ok s ≡ centred_moment m n
 unfolding centred_moment centred_sum
-centred_done m n k j s h e g f i p =
-    let g' : at_least_one n ≤ length m = rw e at g in
-    rw (le-ltb 16 n h, le-ltb (length m) (at_least_one n) g', le-ltb 16 (length m) f)
-    (ap Value (p ∙ ap (λ (x : ℕ). eval (numbered m) [] (sum_of (centred_term n) x)) (i ∙ add-one n)))
-
--- at least one number is there
-pub some : (n k l : ℕ) → k ≡ at_least_one n → k ≤ l → (0 < l) × (n ≤ l)
-some zero k l e h = (omega arith, omega arith)
-some (suc n) k l e h =
-    let one : 1 ≤ suc n = omega arith in
-    let f : k ≡ suc n = e ∙ rw (le-ltb (suc n) 1 one) in
-    (omega arith, omega arith)
+centred_done m n j s h i p =
+    rw (← h) (ap Ok (p ∙ ap (λ (x : ℕ). eval (numbered m) [] (sum_of (centred_term n) x)) (i ∙ add-one n)))
 
 -- ---- raw moments
 pub raw_start : (c : List Float) (mean : Float) (n : ℕ) → nought ≡ eval (mean ∷ numbered c) [] (sum_of (raw_term n) 0)
@@ -108,32 +84,11 @@ unfolding raw_value
 raw_at c mean zero x h e = absurd (omega arith)
 raw_at c mean (suc i) x h e = e ∙ ap (raw_sum c mean) (add-one (suc i))
 
-pub raw_2 : (c : List Float) (mean : Float) (out : List Float) → 16 < length c → (Unwritten 2 ≡ raw_moment c out) × (out ≡ raw_out c mean out)
-unfolding raw_moment raw_out
-raw_2 c mean out h = (rw (lt-ltb 16 (length c) h), rw (lt-ltb 16 (length c) h))
-
-pub raw_8 : (c : List Float) (mean : Float) (out : List Float) (k : ℕ) → length c ≤ 16 → k ≡ at_least_one (length c) → length out < k → (Unwritten 8 ≡ raw_moment c out) × (out ≡ raw_out c mean out)
-unfolding raw_moment raw_out
-raw_8 c mean out k h e g =
-    let g' : length out < at_least_one (length c) = rw e at g in
-    (rw (le-ltb 16 (length c) h, lt-ltb (length out) (at_least_one (length c)) g'), rw (le-ltb 16 (length c) h, lt-ltb (length out) (at_least_one (length c)) g'))
-
-pub raw_done : (c : List Float) (mean : Float) (out w : List Float) (k i : ℕ) → length c ≤ 16 → k ≡ at_least_one (length c) → k ≤ length out → i ≡ k → 0 < i → w ≡ filled c mean (set out 0 mean) i
-    → (Written k ≡ raw_moment c out) × (w ≡ raw_out c mean out)
+pub raw_done : (c : List Float) (mean : Float) (out w : List Float) (k i : ℕ) → Ok tt ≡ raw_refusal (length c) (length out) → k ≡ at_least_one (length c) → i ≡ k → 0 < i → w ≡ filled c mean (set out 0 mean) i
+    → (Ok k ≡ raw_moment c out) × (w ≡ raw_out c mean out)
 unfolding raw_moment raw_out filled
-raw_done c mean out w k i h e g j q p =
-    let g' : at_least_one (length c) ≤ length out = rw e at g in (
-      rw (le-ltb 16 (length c) h, le-ltb (length out) (at_least_one (length c)) g') (ap Written e),
-      rw (le-ltb 16 (length c) h, le-ltb (length out) (at_least_one (length c)) g') (p ∙ fill_same c mean out i q ∙ ap (filled c mean out) (j ∙ e)),
-    )
-
--- more than one place: the list itself says how many
-pub needed : (n k i : ℕ) → k ≡ at_least_one n → 0 < i → i < k → i + 1 ≤ n
-needed zero k i e h g = absurd (omega arith)
-needed (suc n) k i e h g =
-    let one : 1 ≤ suc n = omega arith in
-    let f : k ≡ suc n = e ∙ rw (le-ltb (suc n) 1 one) in
-    omega arith
+raw_done c mean out w k i h e j q p =
+    (rw (← h) (ap Ok e), rw (← h) (p ∙ fill_same c mean out i q ∙ ap (filled c mean out) (j ∙ e)))
 
 pub length_filled : (c : List Float) (mean : Float) (out : List Float) (i : ℕ) → i ≤ length out → length (filled c mean out i) ≡ length out
 unfolding filled

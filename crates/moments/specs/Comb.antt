@@ -1,5 +1,5 @@
 -- Binomial numbers over floats, as the Rust's comb works them out. Definitions only.
-use Rattle.std.specs.Prelude.{cond, ℕ, zero, suc, ◌+◌, ◌-◌, ltb, pos, Float}
+use Rattle.std.specs.Prelude.{cond, ℕ, zero, suc, ◌+◌, ◌-◌, ltb, min, pos, Float}
 use Rattle.std.specs.Float.{binary64}
 use Rattle.std.specs.Float.Ieee.{mul, div, of_int}
 use Rattle.float.specs.Constants.{nought, one}
@@ -13,9 +13,6 @@ unfoldable pub rising : ℕ → Float
 rising zero = one
 rising (suc i) = mul binary64 (rising i) (of_int binary64 (pos (i + 1)))
 
-abbrev pub lesser : ℕ → ℕ → ℕ
-lesser a b = cond (ltb b a) b a
-
 unfoldable pub choose : ℕ → ℕ → Float
 unfolding falling rising
-choose n k = cond (ltb n k) nought (div binary64 (falling n (lesser k (n - k))) (rising (lesser k (n - k))))
+choose n k = cond (ltb n k) nought (div binary64 (falling n (min k (n - k))) (rising (min k (n - k))))

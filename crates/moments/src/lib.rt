@@ -4,9 +4,12 @@
 ghost use Rattle.std.specs.Prelude.{◌≡◌, ◌≤◌, length, get_or};
 ghost use Rattle.std.specs.Float.{nan};
 ghost use Rattle.moments.specs.Comb.{choose};
+ghost use Rattle.moments.specs.Figures.{five_of, listed, params_listed, params_of};
 ghost use Rattle.moments.specs.Mixture.{get_moments};
 ghost use Rattle.moments.specs.Orders.{numbered, raw_sum};
-ghost use Rattle.moments.specs.Refusals.{at_least_one, centred_moment, raw_moment, raw_out};
+ghost use Rattle.moments.specs.Refusals.{centred_moment, centred_refusal, raw_moment, raw_out, raw_refusal};
+
+use refusal::Refusal;
 
 // The parameters of a mixture: weight p_1 on N(mu_1, sigma_1²) and 1 - p_1 on N(mu_2, sigma_2²).
 #[derive(Clone, Copy)]
@@ -28,27 +31,68 @@ pub struct Five {
     pub m_5: f64,
 }
 
-#[derive(Clone, Copy)]
-pub enum Centred {
-    Refused(u64),
-    Value(f64),
+impl From<Five> for [f64; 5] {
+    ghost from_gives = { λ m l. l ≡ listed m };
+
+    fn from(m: Five) -> [f64; 5]
+        ensures { result ≡ listed m }
+    {
+        [m.m_1, m.m_2, m.m_3, m.m_4, m.m_5]
+    }
 }
 
-// How many raw moments were written, or why none was.
-#[derive(Clone, Copy)]
-pub enum Remade {
-    Unwritten(u64),
-    Written(usize),
+impl From<[f64; 5]> for Five {
+    ghost from_gives = { λ l m. m ≡ five_of l };
+
+    fn from(l: [f64; 5]) -> Five
+        ensures { result ≡ five_of l }
+    {
+        Five {
+            m_1: l[0],
+            m_2: l[1],
+            m_3: l[2],
+            m_4: l[3],
+            m_5: l[4],
+        }
+    }
+}
+
+impl From<Params> for [f64; 5] {
+    ghost from_gives = { λ p l. l ≡ params_listed p };
+
+    fn from(p: Params) -> [f64; 5]
+        ensures { result ≡ params_listed p }
+    {
+        [p.mu_1, p.mu_2, p.sigma_1, p.sigma_2, p.p_1]
+    }
+}
+
+impl From<[f64; 5]> for Params {
+    ghost from_gives = { λ l p. p ≡ params_of l };
+
+    fn from(l: [f64; 5]) -> Params
+        ensures { result ≡ params_of l }
+    {
+        Params {
+            mu_1: l[0],
+            mu_2: l[1],
+            sigma_1: l[2],
+            sigma_2: l[3],
+            p_1: l[4],
+        }
+    }
 }
 
 pub fn get_moments(p: Params) -> Five
     ensures { result ≡ get_moments p }
 {
-    let u_1 = p.mu_1;
-    let u_2 = p.mu_2;
-    let s_1 = p.sigma_1;
-    let s_2 = p.sigma_2;
-    let p_1 = p.p_1;
+    let Params {
+        mu_1: u_1,
+        mu_2: u_2,
+        sigma_1: s_1,
+        sigma_2: s_2,
+        p_1,
+    } = p;
     let p_2 = 1.0 - p_1;
     // the powers, as powi has them
     let s_1_2 = s_1 * s_1;
@@ -82,25 +126,14 @@ fn comb(n: usize, k: usize) -> f64
     if n < k {
         return 0.0;
     }
-    let mut k_eff = k;
-    if n - k < k {
-        k_eff = n - k;
-    }
+    let k_eff = k.min(n - k);
     let mut num = 1.0;
     let mut den = 1.0;
-    let mut i = 0;
-    while i < k_eff {
-        num = num * (n - i) as f64;
-        den = den * (i + 1) as f64;
-        i += 1;
+    for i in 0..k_eff {
+        num *= (n - i) as f64;
+        den *= (i + 1) as f64;
     }
     num / den
-}
-
-fn at_least_one(n: usize) -> usize
-    ensures { result ≡ at_least_one n }
-{
-    if n < 1 { 1 } else { n }
 }
 
 // Number k of a list, counted from 1; number 0 is 1.
@@ -114,31 +147,35 @@ fn numbered_at(m: &[f64], k: usize) -> f64
     m[k - 1]
 }
 
-// The centred moment of an order, from raw moments.
-pub fn centered_moment(moments: &[f64], order: usize) -> Centred
-    ensures { result ≡ centred_moment moments.now order }
+fn check_centred(len: usize, order: usize) -> Result<(), Refusal>
+    ensures { result ≡ centred_refusal len order }
 {
     if 16 < order {
-        return Centred::Refused(9);
+        return Err(Refusal::OrderTooHigh);
     }
-    if moments.len() < at_least_one(order) {
-        return Centred::Refused(1);
+    if len < order.max(1) {
+        return Err(Refusal::TooFewMoments);
     }
-    if 16 < moments.len() {
-        return Centred::Refused(2);
+    if 16 < len {
+        return Err(Refusal::TooManyMoments);
     }
+    Ok(())
+}
+
+// The centred moment of an order, from raw moments.
+pub fn centered_moment(moments: &[f64], order: usize) -> Result<f64, Refusal>
+    ensures { result ≡ centred_moment moments.now order }
+{
+    check_centred(moments.len(), order)?;
     let mut moment_c = 0.0;
-    let mut j = 0;
-    while j <= order {
+    for j in 0..order + 1 {
         let sign = number::powi(-1.0, j);
         let combin = comb(order, j);
-        let m_1 = moments[0];
-        let p = number::powi(m_1, j);
+        let p = number::powi(moments[0], j);
         let a_1 = numbered_at(moments, order - j);
-        moment_c = moment_c + sign * combin * p * a_1;
-        j += 1;
+        moment_c += sign * combin * p * a_1;
     }
-    Centred::Value(moment_c)
+    Ok(moment_c)
 }
 
 // The raw moment of order n, from centred moments and the mean.
@@ -147,34 +184,38 @@ fn raw_one(central: &[f64], mean: f64, n: usize) -> f64
     ensures { result ≡ raw_sum central.now mean n }
 {
     let mut moment_n = 0.0;
-    let mut k = 0;
-    while k <= n {
+    for k in 0..n + 1 {
         let combin = comb(n, k);
         let ck = numbered_at(central, k);
         let p = number::powi(mean, n - k);
-        moment_n = moment_n + combin * ck * p;
-        k += 1;
+        moment_n += combin * ck * p;
     }
     moment_n
 }
 
-// The raw moments into a lent list, from centred moments of order 1 upward and the mean.
-pub fn raw_moment(central: &[f64], mean: f64, out: &mut [f64]) -> Remade
+fn check_raw(len: usize, room: usize) -> Result<(), Refusal>
+    ensures { result ≡ raw_refusal len room }
+{
+    if 16 < len {
+        return Err(Refusal::TooManyMoments);
+    }
+    if room < len.max(1) {
+        return Err(Refusal::TooLittleRoom);
+    }
+    Ok(())
+}
+
+// The raw moments into a lent list, from centred moments of order 1 upward and the mean: how many were
+// written, or why none was.
+pub fn raw_moment(central: &[f64], mean: f64, out: &mut [f64]) -> Result<usize, Refusal>
     ensures { (result ≡ raw_moment central.now out.old)
         × (out.new ≡ raw_out central.now mean out.old) }
 {
-    if 16 < central.len() {
-        return Remade::Unwritten(2);
-    }
-    let need = at_least_one(central.len());
-    if out.len() < need {
-        return Remade::Unwritten(8);
-    }
+    check_raw(central.len(), out.len())?;
+    let need = central.len().max(1);
     out[0] = mean;
-    let mut i = 1;
-    while i < need {
+    for i in 1..need {
         out[i] = raw_one(central, mean, i + 1);
-        i += 1;
     }
-    Remade::Written(need)
+    Ok(need)
 }

@@ -1,9 +1,10 @@
 -- The requests of the sigmoid curve, each by its words and what they come to, and the reply to a line. Definitions only.
-use Rattle.std.specs.Prelude.{ℕ, List, Float, get_or}
+use Rattle.std.specs.Prelude.{ℕ, List, Float, get_or, Result, Ok, Err}
 use Rattle.std.specs.Float.{nan}
 use Rattle.prices.specs.Prices.{get_w_sigmoid, inv_price_sigmoid}
 use Rattle.limit_price.specs.LimitPrice.{limit_price_sigmoid}
-use Rattle.limit_price.specs.declared.Limit as limit
+use Rattle.refusal.specs.Numbers.{number_of}
+use Rattle.refusal.specs.declared.Refusal.{Refusal}
 use Rattle.text.specs.Decode.{Got}
 use Rattle.protocol_lists.specs.Lists.{fractions}
 use Rattle.replies.specs.Requests.{◌>>=◌, named, reply}
@@ -23,9 +24,9 @@ inv_price = do
   v ← fractions 3
   reply (Fraction (inv_price_sigmoid (at v 0) (at v 1) (at v 2)))
 
-abbrev pub limit_reply : limit.Limit → Reply
-limit_reply (limit.TheVariants.Refused number) = Refused number
-limit_reply (limit.TheVariants.Price x) = Fraction x
+abbrev pub limit_reply : Result Float Refusal → Reply
+limit_reply (Err e) = Refused (number_of e)
+limit_reply (Ok x) = Fraction x
 
 abbrev pub limit_price_reply : List ℕ → Got Reply
 limit_price_reply = do

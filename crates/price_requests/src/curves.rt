@@ -4,7 +4,7 @@ ghost use Rattle.std.specs.Prelude.{◌≡◌, drop};
 ghost use Rattle.price_requests.specs.Curves.{curves, inv_price, limit_price_reply, limit_reply, w_sigmoid};
 ghost use Rattle.replies.specs.Requests.{only};
 
-use limit_price::Limit;
+use refusal::Refusal;
 use replies::Reply;
 
 pub fn answer(s: &[u8]) -> Reply
@@ -42,12 +42,12 @@ fn inv_price_sigmoid(s: &[u8], at: usize) -> Reply
     Reply::Fraction(prices::inv_price_sigmoid(v[0], v[1], v[2]))
 }
 
-fn limit_reply(l: Limit) -> Reply
-    ensures { result ≡ limit_reply l }
+fn limit_reply(answer: Result<f64, Refusal>) -> Reply
+    ensures { result ≡ limit_reply answer }
 {
-    match l {
-        Limit::Refused(number) => Reply::Refused(number),
-        Limit::Price(x) => Reply::Fraction(x),
+    match answer {
+        Err(e) => Reply::Refused(u64::from(e)),
+        Ok(x) => Reply::Fraction(x),
     }
 }
 

@@ -27,10 +27,11 @@ pub fn put(out: &mut [u8], at: usize, r: Reply, s: &[u8], xs: &[f64]) -> usize
 fn put_head(out: &mut [u8], at: usize, r: Reply) -> usize
     ensures { Placed out.old out.new at result (head r) }
 {
-    match r {
-        Reply::Bad => text_write::put(out, at, b"bad"),
-        Reply::Refused(_) => text_write::put(out, at, b"refused"),
-        Reply::Inadmissible => text_write::put(out, at, b"inadmissible"),
-        _ => text_write::put(out, at, b"ok"),
-    }
+    let word: &[u8] = match r {
+        Reply::Bad => b"bad",
+        Reply::Refused(_) => b"refused",
+        Reply::Inadmissible => b"inadmissible",
+        _ => b"ok",
+    };
+    text_write::put(out, at, word)
 }

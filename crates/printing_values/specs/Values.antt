@@ -1,5 +1,6 @@
 -- The values of a reply, as docs/REQUESTS.md lists them: texts that are put one after another, each value after a blank. Definitions only.
-use Rattle.std.specs.Prelude.{ℕ, cond, List, [], ◌∷◌, ◌++◌, Float, take}
+use Rattle.std.specs.Prelude.{ℕ, List, [], ◌∷◌, ◌++◌, Float, Option, Some, None, take}
+use Rattle.grid_rows.specs.declared.FitResultRow.{FitResultRow}
 use Rattle.moments.specs.declared.Five.{Five}
 use Rattle.moments.specs.declared.Params.{Params}
 use Rattle.text.specs.Bytes.{bytes}
@@ -20,12 +21,13 @@ abbrev pub walked : Report → List (List ℕ)
 walked w = natural w.count ++ (natural w.reason ++ fractions (parameters w.parameters ++ (w.error ∷ moments w.new_moments)))
 
 -- the row that a search found, if it found one
-abbrev pub found : Search → List (List ℕ)
-found f = cond f.is_row (bytes " row" ∷ fractions (parameters f.row ++ (f.row_error ∷ []))) (bytes " none" ∷ [])
+abbrev pub found : Option FitResultRow → List (List ℕ)
+found (Some r) = bytes " row" ∷ fractions (r.mu_1 ∷ r.mu_2 ∷ r.sigma_1 ∷ r.sigma_2 ∷ r.p_1 ∷ r.error ∷ [])
+found None = bytes " none" ∷ []
 
 -- and the state after it
 abbrev pub searched : Search → List (List ℕ)
-searched f = found f ++ (bytes " state" ∷ fractions (parameters f.parameters ++ (f.error ∷ f.epsilon ∷ moments f.new_moments)))
+searched f = found f.row ++ (bytes " state" ∷ fractions (parameters f.parameters ++ (f.error ∷ f.epsilon ∷ moments f.new_moments)))
 
 -- the values of a reply, for the request s and the list xs that stands beside the reply
 abbrev pub values : reply.Reply → List ℕ → List Float → List (List ℕ)

@@ -22,11 +22,10 @@ fn put_rows(out: &mut [u8], at: usize, r: SpanRows, s: &[u8], xs: &[f64]) -> usi
     let Number::Is(n, a) = protocol::read_next_natural(s, r.starts, u64::MAX) else {
         return at;
     };
-    let columns = protocol::least(r.columns, 2);
+    let columns = r.columns.min(2);
     let mut to = at;
     let mut k = a;
-    let mut i: u64 = 0;
-    while i < n {
+    for i in 0..n {
         let Instant::Is(t, e) = protocol::read_next_instant(s, k) else {
             return to;
         };
@@ -34,7 +33,6 @@ fn put_rows(out: &mut [u8], at: usize, r: SpanRows, s: &[u8], xs: &[f64]) -> usi
         let v = two_at(xs, i as usize);
         to = numbers::put_fractions(out, to, &v[..columns]);
         k = e;
-        i += 1;
     }
     to
 }
@@ -50,8 +48,5 @@ fn two_at(xs: &[f64], i: usize) -> [f64; 2]
 fn entry(xs: &[f64], i: usize) -> f64
     ensures { result ≡ get_or xs.now i nan }
 {
-    if i < xs.len() {
-        return xs[i];
-    }
-    0.0 / 0.0
+    xs.get(i).copied().unwrap_or(f64::NAN)
 }

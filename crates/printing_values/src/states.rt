@@ -3,6 +3,7 @@ ghost use Rattle.printing_values.specs.Texts.{Puts};
 ghost use Rattle.printing_values.specs.Values.{found, searched, walked};
 
 use crate::numbers;
+use grid_rows::FitResultRow;
 use replies::{Report, Search};
 
 pub(crate) fn put_walk(out: &mut [u8], at: usize, w: Report) -> usize
@@ -21,7 +22,7 @@ pub(crate) fn put_walk(out: &mut [u8], at: usize, w: Report) -> usize
 pub(crate) fn put_search(out: &mut [u8], at: usize, f: Search) -> usize
     ensures { Puts out.old out.new at result (searched f) }
 {
-    let a = put_found(out, at, f);
+    let a = put_found(out, at, f.row);
     let b = text_write::put(out, a, b" state");
     let p = f.parameters;
     let m = f.new_moments;
@@ -33,14 +34,13 @@ pub(crate) fn put_search(out: &mut [u8], at: usize, f: Search) -> usize
 }
 
 // The row that it found, if it found one.
-fn put_found(out: &mut [u8], at: usize, f: Search) -> usize
-    ensures { Puts out.old out.new at result (found f) }
+fn put_found(out: &mut [u8], at: usize, row: Option<FitResultRow>) -> usize
+    ensures { Puts out.old out.new at result (found row) }
 {
-    if !f.is_row {
+    let Some(r) = row else {
         return text_write::put(out, at, b" none");
-    }
+    };
     let k = text_write::put(out, at, b" row");
-    let p = f.row;
-    let v = [p.mu_1, p.mu_2, p.sigma_1, p.sigma_2, p.p_1, f.row_error];
+    let v = [r.mu_1, r.mu_2, r.sigma_1, r.sigma_2, r.p_1, r.error];
     numbers::put_fractions(out, k, &v)
 }

@@ -3,7 +3,7 @@ use mathlib.Core.Path.{◌≡◌, ap}
 use mathlib.Core.List.{List, []}
 use mathlib.Core.Logic.{inl, inr}
 use mathlib.Core.Bool.{Bool, false, ◌&&◌}
-use Prim.Native.Nat.{ℕ, zero, suc, ◌-◌, ◌≤◌, ◌<◌}
+use Prim.Native.Nat.{ℕ, zero, suc, ◌-◌, ◌≤◌, ◌<◌, min}
 use native.Mathlib.Nat.{eq-or-lt_of_le, le_of_suc-le-suc}
 use native.Mathlib.Omega.{arith}
 use lib.Dec.{T, eqb, eqb→eq}
@@ -15,7 +15,7 @@ use Rattle.formula.specs.Exact.{rootables}
 use Rattle.formula.specs.Whole.{is_whole, int_of, whole_constants}
 use Rattle.formula.proofs.Ring.{pw}
 use Rattle.formula.proofs.Integers.{integers}
-use Rattle.moments.specs.Comb.{falling, rising, lesser, choose}
+use Rattle.moments.specs.Comb.{falling, rising, choose}
 use Rattle.moments.specs.Constants.{minus_one}
 use Rattle.moments.specs.Orders.{centred, raw}
 use Rattle.remade.specs.Remade.{every}
@@ -41,7 +41,7 @@ same_is (negsuc a) (negsuc b) h = ap negsuc (eqb→eq a b h)
 
 -- ---- the table; what comb meets on its way is its two products
 abbrev pub whole_comb : ℕ → ℕ → Bool
-whole_comb n k = is_whole (choose n k) && is_whole (falling n (lesser k (n - k))) && is_whole (rising (lesser k (n - k)))
+whole_comb n k = is_whole (choose n k) && is_whole (falling n (min k (n - k))) && is_whole (rising (min k (n - k)))
 
 abbrev of_comb : ℕ → ℕ → Bool
 of_comb n k = same (int_of (choose n k)) (pos (binomial n k)) && whole_comb n k
@@ -84,7 +84,7 @@ module _ (n : ℕ) (h : n ≤ 16) where
 
   pub comb_whole : (k : ℕ) → k ≤ n → T (is_whole (choose n k))
   comb_whole k l =
-      let i = lesser k (n - k) in
+      let i = min k (n - k) in
       and_l (is_whole (choose n k)) (is_whole (falling n i)) (and_l (is_whole (choose n k) && is_whole (falling n i)) (is_whole (rising i)) (choose_whole k l))
 
   pub sign_exact : int_of (power minus_one n) ≡ pw integers (negsuc 0) n

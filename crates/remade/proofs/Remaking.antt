@@ -4,7 +4,7 @@ use mathlib.Core.List.{List, [], ◌∷◌, ◌++◌}
 use mathlib.Core.Logic.{inl, inr}
 use mathlib.Core.Bool.{Bool}
 use Prim.Native.Nat.{ℕ, zero, suc, ◌-◌, ◌≤◌, ◌<◌}
-use native.Mathlib.Nat.{eq-or-lt_of_le, le_of_suc-le-suc, sub-zero}
+use native.Mathlib.Nat.{eq-or-lt_of_le, le_of_suc-le-suc, max-eq_left, sub-zero}
 use native.Mathlib.Omega.{arith}
 use lib.Dec.{T}
 use lib.ListN.{length, get_or, drop, get_or-append}
@@ -29,8 +29,7 @@ use Rattle.moments.specs.Constants.{minus_one}
 use Rattle.moments.specs.Orders.{numbered, centred_term, centred, centred_sum, raw_term, raw, raw_sum, raw_value, firsts}
 use Rattle.moments.specs.Refusals.{at_least_one, centred_moment, raw_moment, raw_out}
 use Rattle.remade.specs.Remade.{every, centreds, remade, whole_throughout, RemadeAreFirst}
-use Rattle.moments.specs.declared.Centred.TheVariants.{Value}
-use Rattle.moments.specs.declared.Remade.TheVariants.{Written}
+use Rattle.std.specs.Prelude.{Ok}
 use Rattle.remade.proofs.Binomial.{binomial, bsum, bsum_same, diff, centred_is, raw_is, undone}
 use Rattle.remade.proofs.CombTable.{every_at, choose_exact, comb_whole, sign_exact, sign_whole, centred_constants, raw_constants, centred_roots, raw_roots}
 use Rattle.moments.proofs.Turns.{length_firsts}
@@ -161,22 +160,19 @@ unfolding remade
 remade_are_first m s w i h = rw (firsts_at (raw_value (centreds m) (get_or m 0 nan)) (length m) i h) (same_value m s w i h)
 
 -- ---- and the functions answer just that
-one_or_more : (n : ℕ) → 1 ≤ n → at_least_one n ≡ n
-one_or_more n h = rw (le-ltb n 1 h)
-
-pub centred_answer_lem : (m : List Float) (k : ℕ) → k < length m → length m ≤ 16 → centred_moment m (suc k) ≡ Value (get_or (centreds m) k nan)
+pub centred_answer_lem : (m : List Float) (k : ℕ) → k < length m → length m ≤ 16 → centred_moment m (suc k) ≡ Ok (get_or (centreds m) k nan)
 unfolding centred_moment centreds
 centred_answer_lem m k h s =
     let a : suc k ≤ 16 = omega arith in
-    let b : at_least_one (suc k) ≤ length m = rw (one_or_more (suc k) (omega arith)) h in
-    rw (le-ltb 16 (suc k) a, le-ltb (length m) (at_least_one (suc k)) b, le-ltb 16 (length m) s) (ap Value (sym (firsts_at (λ i. centred_sum m (suc i)) (length m) k h)))
+    let b : at_least_one (suc k) ≤ length m = rw (max-eq_left {n = suc k} {m = 1} (omega arith)) h in
+    rw (le-ltb 16 (suc k) a, le-ltb (length m) (at_least_one (suc k)) b, le-ltb 16 (length m) s) (ap Ok (sym (firsts_at (λ i. centred_sum m (suc i)) (length m) k h)))
 
 pub remade_answer : (m out : List Float) → 1 ≤ length m → length m ≤ 16 → length m ≤ length out
-    → (raw_moment (centreds m) out ≡ Written (length m)) × (raw_out (centreds m) (get_or m 0 nan) out ≡ remade m ++ drop (length m) out)
+    → (raw_moment (centreds m) out ≡ Ok (length m)) × (raw_out (centreds m) (get_or m 0 nan) out ≡ remade m ++ drop (length m) out)
 unfolding raw_moment raw_out remade
 remade_answer m out p s r =
-    let n : at_least_one (length m) ≡ length m = one_or_more (length m) p in
+    let n : at_least_one (length m) ≡ length m = max-eq_left p in
     let b : at_least_one (length m) ≤ length out = rw n r in (
-      rw (length_centreds m, le-ltb 16 (length m) s, le-ltb (length out) (at_least_one (length m)) b) (ap Written n),
+      rw (length_centreds m, le-ltb 16 (length m) s, le-ltb (length out) (at_least_one (length m)) b) (ap Ok n),
       rw (length_centreds m, le-ltb 16 (length m) s, le-ltb (length out) (at_least_one (length m)) b) (rw n),
     )

@@ -151,7 +151,7 @@ fn fill(m: M2N, weights: &[f64], places: usize, xs: &mut [f64]) -> Reply
             put_rows(xs, &r.rows[..n]);
             Reply::Listed(n, 6 * n)
         }
-        Err(refusal) => Reply::Refused(u64::from(refusal)),
+        Err(refusal) => Reply::Refused(refusal),
     }
 }
 

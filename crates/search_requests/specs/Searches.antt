@@ -1,11 +1,8 @@
 -- The request of one search, by its words and what they come to, and the reply to a line. Definitions only.
-use Rattle.std.specs.Prelude.{ℕ, ◌-◌, ◌^◌, Bool, true, false, List, Float, drop, length, replicate, take, Option, Some, None, Result, Ok, Err}
+use Rattle.std.specs.Prelude.{ℕ, ◌-◌, ◌^◌, List, Float, drop, length, replicate, take, Option, Some, None, Result, Ok, Err}
 use Rattle.float.specs.Constants.{nought}
-use Rattle.refusal.specs.Numbers.{number_of}
 use Rattle.refusal.specs.declared.Refusal.{Refusal}
-use Rattle.grid_rows.specs.FitResultRow.{params_of, row_of}
 use Rattle.grid_rows.specs.declared.FitResultRow.{FitResultRow}
-use Rattle.grid.specs.Rows.{zeros}
 use Rattle.grid.specs.Search.{single_fit}
 use Rattle.grid.specs.declared.Fitted.{Fitted}
 use Rattle.text.specs.Bytes.{bytes}
@@ -45,30 +42,18 @@ abbrev pub given_is : List ℕ → given.Given → Got (Option Float)
 given_is s (given.TheVariants.Is e k) = got e (drop k s)
 given_is s given.TheVariants.No = bad
 
--- a row, or what stands for one, and the state after the search
-abbrev pub search_of : M2N → Bool → FitResultRow → Search
-search_of m there r = record {
-  is_row = there;
-  row = params_of r;
-  row_error = r.error;
-  parameters = m.parameters;
-  error = m.error;
-  epsilon = m.epsilon;
-  new_moments = m.new_moments;
-}
-
--- where there is no row, zeros stand for it
-abbrev pub no_row : FitResultRow
-no_row = row_of zeros nought
-
+-- the row, if there is one, and the state after the search
 abbrev pub ended_search : M2N → Option FitResultRow → Search
-ended_search m (Some r) = search_of m true r
-ended_search m None = search_of m false no_row
+ended_search m row = record {
+  row = row;
+  state = record { parameters = m.parameters; error = m.error; new_moments = m.new_moments };
+  epsilon = m.epsilon;
+}
 
 -- how a search ended, with the state after it, as a reply
 abbrev pub outcome_reply : Result (Option FitResultRow) Refusal → M2N → Reply
 outcome_reply (Ok best) m = Searched (ended_search m best)
-outcome_reply (Err e) m = Refused (number_of e)
+outcome_reply (Err e) m = Refused e
 
 abbrev pub searched_reply : Fitted → Reply
 searched_reply f = outcome_reply f.outcome f.state

@@ -1,11 +1,10 @@
 // The request of one search. A list of moments longer than 16 is read, and refused by the library. A
 // weight has 17 bytes of a line of at most 65,535 bytes, so a line has fewer than 4,096 of them.
 ghost use Rattle.std.specs.Prelude.{◌≡◌, drop};
-ghost use Rattle.search_requests.specs.Searches.{ended_search, given_is, next_given, no_row, overriding, search_from, search_of, searched_reply, searches, single, weights_from};
+ghost use Rattle.search_requests.specs.Searches.{ended_search, given_is, next_given, overriding, search_from, searched_reply, searches, single, weights_from};
 ghost use Rattle.replies.specs.Requests.{only};
 
 use grid::{FitResultRow, Fitted};
-use moments::Params;
 use protocol::Fraction;
 use protocol_lists::{List, State};
 use replies::{Reply, Search};
@@ -123,44 +122,21 @@ fn reply(f: Fitted) -> Reply
     ensures { result ≡ searched_reply f }
 {
     match f.outcome {
-        Ok(best) => Reply::Searched(ended(f.state, best)),
-        Err(refusal) => Reply::Refused(u64::from(refusal)),
+        Ok(row) => Reply::Searched(ended(f.state, row)),
+        Err(refusal) => Reply::Refused(refusal),
     }
 }
 
-fn ended(m: M2N, best: Option<FitResultRow>) -> Search
-    ensures { result ≡ ended_search m best }
-{
-    match best {
-        Some(row) => search_of(m, true, row),
-        None => search_of(m, false, no_row()),
-    }
-}
-
-fn search_of(m: M2N, is_row: bool, r: FitResultRow) -> Search
-    ensures { result ≡ search_of m is_row r }
+fn ended(m: M2N, row: Option<FitResultRow>) -> Search
+    ensures { result ≡ ended_search m row }
 {
     Search {
-        is_row,
-        row: Params::from(r),
-        row_error: r.error,
-        parameters: m.parameters,
-        error: m.error,
+        row,
+        state: State {
+            parameters: m.parameters,
+            error: m.error,
+            new_moments: m.new_moments,
+        },
         epsilon: m.epsilon,
-        new_moments: m.new_moments,
-    }
-}
-
-// Stands for a row where there is none.
-fn no_row() -> FitResultRow
-    ensures { result ≡ no_row }
-{
-    FitResultRow {
-        mu_1: 0.0,
-        mu_2: 0.0,
-        sigma_1: 0.0,
-        sigma_2: 0.0,
-        p_1: 0.0,
-        error: 0.0,
     }
 }

@@ -9,26 +9,30 @@ use borrow.Author.Tests.{le-ltb, lt-ltb, ltb-false}
 use lib.Dec.{ltb}
 use lib.ListN.{length, drop, drop_of_length-le, length-append}
 use lib.Seq.{drop-cons}
+use Rattle.std.specs.Prelude.{Ok, Err}
 use Rattle.text.specs.Decode.{got, bad}
+use Rattle.refusal.specs.declared.Refusal.TheVariants.{TooLarge}
 use Rattle.sheet_forms.specs.declared.Span.{Span}
 use Rattle.sheet_forms.specs.Forms.{line_form}
 use Rattle.sheet_forms.proofs.Further.{further}
-use Rattle.sheet_read.specs.Sheet.{Lines, spans, wrong, also, onward, lines, limited, Reading, sheet, accepted, refused, refused_at}
+use Rattle.sheet_read.specs.Sheet.{Lines, also, onward, lines, limited, Reading, sheet}
+use Rattle.sheet_read.specs.declared.SheetError.{SheetError}
+use Rattle.sheet_read.specs.declared.SheetError.TheVariants.{Refused, NotASpan}
 
 -- ---- the spans l, and then what the lines after them are
 abbrev pub prepend : List Span → Lines → Lines
-prepend l (spans m) = spans (l ++ m)
-prepend l (wrong n) = wrong n
+prepend l (Ok m) = Ok (l ++ m)
+prepend l (Err n) = Err n
 
 pub prepend_none : (g : Lines) → g ≡ prepend [] g
-prepend_none (spans l) = refl
-prepend_none (wrong n) = refl
+prepend_none (Ok l) = refl
+prepend_none (Err n) = refl
 
 pub prepend_also : (l : List Span) (a : Span) (g : Lines) → prepend l (also a g) ≡ prepend (l ++ (a ∷ [])) g
-prepend_also l a (spans m) = rw append_assoc
-prepend_also l a (wrong n) = refl
+prepend_also l a (Ok m) = rw append_assoc
+prepend_also l a (Err n) = refl
 
-lines_end : (k n : ℕ) → lines k n [] ≡ spans []
+lines_end : (k n : ℕ) → lines k n [] ≡ Ok []
 unfolding lines
 lines_end zero n = refl
 lines_end (suc k) n = refl
@@ -65,55 +69,52 @@ module _ (s : List ℕ) (i n : ℕ) (g : Going s i n) where
   }
 
   -- the first that is none
-  pub fault : i < length s → line_form (drop i s) ≡ bad → lines (length s) 1 s ≡ wrong (n + 1)
+  pub fault : i < length s → line_form (drop i s) ≡ bad → lines (length s) 1 s ≡ Err (n + 1)
   fault h e = turn h ∙ rw e
 
   -- the end
-  pub whole : length s ≤ i → lines (length s) 1 s ≡ spans g.done
+  pub whole : length s ≤ i → lines (length s) 1 s ≡ Ok g.done
   whole h = g.rest ∙ rw (drop_of_length-le s h, lines_end, append-nil)
 
 -- ---- what the lines say of the sheet
 module _ (s : List ℕ) where
-  pub sheet_long : 65536 < length s → sheet s ≡ refused 11
+  pub sheet_long : 65536 < length s → sheet s ≡ Err (Refused TooLarge)
   unfolding sheet
   sheet_long h = rw (lt-ltb _ _ h)
 
-  pub sheet_wrong : (n : ℕ) → length s ≤ 65536 → lines (length s) 1 s ≡ wrong n → sheet s ≡ refused_at 15 n
+  pub sheet_wrong : (n : ℕ) → length s ≤ 65536 → lines (length s) 1 s ≡ Err n → sheet s ≡ Err (NotASpan n)
   unfolding sheet
   sheet_wrong n h e = rw (le-ltb _ _ h, e)
 
-  pub sheet_many : (l : List Span) → length s ≤ 65536 → lines (length s) 1 s ≡ spans l → 1024 < length l → sheet s ≡ refused 11
+  pub sheet_many : (l : List Span) → length s ≤ 65536 → lines (length s) 1 s ≡ Ok l → 1024 < length l → sheet s ≡ Err (Refused TooLarge)
   unfolding sheet
   sheet_many l h e m = rw (le-ltb _ _ h, e, lt-ltb _ _ m)
 
-  pub sheet_good : (l : List Span) → length s ≤ 65536 → lines (length s) 1 s ≡ spans l → length l ≤ 1024 → sheet s ≡ accepted l
+  pub sheet_good : (l : List Span) → length s ≤ 65536 → lines (length s) 1 s ≡ Ok l → length l ≤ 1024 → sheet s ≡ Ok l
   unfolding sheet
   sheet_good l h e m = rw (le-ltb _ _ h, e, le-ltb _ _ m)
 
 -- and what an accepted sheet says of its lines
 pub record Accepts (s : List ℕ) (l : List Span) : Type 0 where
-  pub is : lines (length s) 1 s ≡ spans l
+  pub is : lines (length s) 1 s ≡ Ok l
   pub few_lines : length l ≤ 1024
   pub few_bytes : length s ≤ 65536
 
-no : {A : Type 0} → ◌≡◌ {A = ℕ} 0 1 → A
-no e = absurd (omega arith)
-
 module _ (l : List Span) where
-  unless : (b : Bool) (n : ℕ) (g : Reading) → cond b (refused n) g ≡ accepted l → (b ≡ false) × (g ≡ accepted l)
-  unless true n g e = no cc
-  unless false n g e = (refl, e)
+  unless : (b : Bool) (d : SheetError) (g : Reading) → cond b (Err d) g ≡ Ok l → (b ≡ false) × (g ≡ Ok l)
+  unless true d g e = absurd cc
+  unless false d g e = (refl, e)
 
-  few : (g : Lines) → limited g ≡ accepted l → (g ≡ spans l) × (length l ≤ 1024)
-  few (spans m) e =
-      let p = unless (ltb 1024 (length m)) 11 (accepted m) e in
+  few : (g : Lines) → limited g ≡ Ok l → (g ≡ Ok l) × (length l ≤ 1024)
+  few (Ok m) e =
+      let p = unless (ltb 1024 (length m)) (Refused TooLarge) (Ok m) e in
       let q : m ≡ l = cc p.1 in
       rw (← q) (refl, ltb-false 1024 (length m) p.0)
-  few (wrong n) e = no cc
+  few (Err n) e = absurd cc
 
-  pub accepts : (s : List ℕ) → sheet s ≡ accepted l → Accepts s l
+  pub accepts : (s : List ℕ) → sheet s ≡ Ok l → Accepts s l
   unfolding sheet
   accepts s e =
-      let p = unless (ltb 65536 (length s)) 11 (limited (lines (length s) 1 s)) e in
+      let p = unless (ltb 65536 (length s)) (Refused TooLarge) (limited (lines (length s) 1 s)) e in
       let q = few (lines (length s) 1 s) p.1 in
       record { is = q.0; few_lines = q.1; few_bytes = ltb-false 65536 (length s) p.0 }

@@ -13,7 +13,7 @@ use Rattle.step.specs.Steps.{curves, iter_4, iter_5, sigma2_squared, step_4, ste
 use Rattle.step.specs.declared.Step.{Step}
 use Rattle.step.specs.declared.Step.TheVariants.{Inadmissible}
 use Rattle.step.specs.declared.curves.Curves.{Curves}
-use Rattle.step.specs.declared.curves.Curves.TheVariants as found
+use Rattle.std.specs.Prelude.{Option, None, Some}
 use Rattle.step.proofs.FirstHalf.{negative}
 
 -- ---- either step
@@ -80,10 +80,10 @@ module _ (k : Kind) (g : List Float) where
         tested false = refl
 
 -- what `curves_from` ensures, by its two answers
-pub ran : {g : List Float} {r : Curves} {a b c : Float} → CurvesFrom g r → r ≡ found.Found a b c → Ran g a b c
+pub ran : {g : List Float} {r : Option Curves} {c : Curves} → CurvesFrom g r → r ≡ Some c → Ran g c.mu_1 c.sigma_1 c.sigma_2
 ran {g} h e = subst (CurvesFrom g) e h
 
-pub not_ran : (g : List Float) {r : Curves} → CurvesFrom g r → r ≡ found.Inadmissible → run curves g [] ≡ inadmissible
+pub not_ran : (g : List Float) {r : Option Curves} → CurvesFrom g r → r ≡ None → run curves g [] ≡ inadmissible
 not_ran g h e = subst (CurvesFrom g) e h
 
 -- ---- each step

@@ -1,5 +1,5 @@
 -- What the private parts of the steps promise them. Definitions only.
-use Rattle.std.specs.Prelude.{◌≡◌, not, ◌&&◌, cond, List, [], ◌∷◌, Float}
+use Rattle.std.specs.Prelude.{◌≡◌, not, ◌&&◌, cond, List, [], ◌∷◌, Float, Option, None, Some}
 use Rattle.std.specs.Float.Ieee.{le}
 use Rattle.float.specs.Constants.{nought, one}
 use Rattle.formula.specs.Formula.{given, admitted, inadmissible, eval, run, untested}
@@ -8,7 +8,6 @@ use Rattle.step.specs.Steps.{curves, fifth, μ₁, den₂₄, σ₂²}
 use Rattle.step.specs.declared.Step.{Step}
 use Rattle.step.specs.declared.Step.TheVariants as step
 use Rattle.step.specs.declared.curves.Curves.{Curves}
-use Rattle.step.specs.declared.curves.Curves.TheVariants.{Found, Inadmissible}
 use Rattle.step.specs.declared.variance.Variance.{Variance}
 
 -- `variance_at`: the first three variables, whatever the tests between them say
@@ -26,9 +25,9 @@ pub record Ran (g : List Float) (mu1 sigma1 sigma2 : Float) : Type 0 where
   pub sigma1² : Float
   pub runs : run curves g [] ≡ admitted (mu1 ∷ den24 ∷ sigma2² ∷ sigma2 ∷ sigma1² ∷ sigma1 ∷ [])
 
-abbrev pub CurvesFrom : List Float → Curves → Type 0
-CurvesFrom g Inadmissible = run curves g [] ≡ inadmissible
-CurvesFrom g (Found mu1 sigma1 sigma2) = Ran g mu1 sigma1 sigma2
+abbrev pub CurvesFrom : List Float → Option Curves → Type 0
+CurvesFrom g None = run curves g [] ≡ inadmissible
+CurvesFrom g (Some c) = Ran g c.mu_1 c.sigma_1 c.sigma_2
 
 -- `weighed`: the five numbers, unless the weight is not from 0 to 1
 abbrev pub weighed : Params → Step

@@ -23,19 +23,25 @@ pub enum Step {
 fn weighed(r: Params) -> Step
     ensures { result ≡ weighed r }
 {
-    if 0.0 <= r.p_1 {
-        if r.p_1 <= 1.0 {
-            return Step::Admitted(r);
-        }
+    if 0.0 <= r.p_1 && r.p_1 <= 1.0 {
+        Step::Admitted(r)
+    } else {
+        Step::Inadmissible
     }
-    Step::Inadmissible
 }
 
 // The step on the first four of five moments.
 pub fn four(m: Five, mu_2: f64, p_1: f64) -> Step
     ensures { result ≡ step_4 (m.m_1 ∷ m.m_2 ∷ m.m_3 ∷ m.m_4 ∷ []) mu_2 p_1 }
 {
-    let Curves::Found(mu_1, sigma_1, sigma_2) = curves::curves_from(m, mu_2, p_1) else {
+    let Some(
+        Curves {
+            mu_1,
+            sigma_1,
+            sigma_2,
+        },
+    ) = curves::curves_from(m, mu_2, p_1)
+    else {
         return Step::Inadmissible;
     };
     let mu_1_2 = mu_1 * mu_1;
@@ -53,10 +59,10 @@ pub fn four(m: Five, mu_2: f64, p_1: f64) -> Step
     }
     let p_1_new = (m.m_4 - 3.0 * sigma_2_4 - 6.0 * sigma_2_2 * mu_2_2 - mu_2_4) / p_1_deno;
     weighed(Params {
-        mu_1: mu_1,
-        mu_2: mu_2,
-        sigma_1: sigma_1,
-        sigma_2: sigma_2,
+        mu_1,
+        mu_2,
+        sigma_1,
+        sigma_2,
         p_1: p_1_new,
     })
 }
@@ -74,7 +80,14 @@ fn fifth(mu: f64, sigma: f64) -> f64
 pub fn five(m: Five, mu_2: f64, p_1: f64) -> Step
     ensures { result ≡ step_5 (m.m_1 ∷ m.m_2 ∷ m.m_3 ∷ m.m_4 ∷ m.m_5 ∷ []) mu_2 p_1 }
 {
-    let Curves::Found(mu_1, sigma_1, sigma_2) = curves::curves_from(m, mu_2, p_1) else {
+    let Some(
+        Curves {
+            mu_1,
+            sigma_1,
+            sigma_2,
+        },
+    ) = curves::curves_from(m, mu_2, p_1)
+    else {
         return Step::Inadmissible;
     };
     if 1.0 - p_1 < 1e-4 {
@@ -106,10 +119,10 @@ pub fn five(m: Five, mu_2: f64, p_1: f64) -> Step
     }
     let p_1_new = (m.m_5 - b_2) / (a_2 - b_2);
     weighed(Params {
-        mu_1: mu_1,
+        mu_1,
         mu_2: mu_2_new,
-        sigma_1: sigma_1,
-        sigma_2: sigma_2,
+        sigma_1,
+        sigma_2,
         p_1: p_1_new,
     })
 }

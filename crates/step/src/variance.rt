@@ -25,9 +25,9 @@ pub(crate) fn variance_at(m: Five, mu_2: f64, p_1: f64) -> Variance
         - 3.0 * mu_1 * (m.m_2 + mu_2_2 * (p_1 - 1.0)))
         / den_24;
     Variance {
-        mu_1: mu_1,
-        den_24: den_24,
-        sigma_2_squared: sigma_2_squared,
+        mu_1,
+        den_24,
+        sigma_2_squared,
     }
 }
 

@@ -1,28 +1,32 @@
 -- The requests of one step of the fit, each by its words and what they come to, and the reply to a line. Definitions only.
-use Rattle.std.specs.Prelude.{ℕ, cond, List, eqb, Float}
+use Rattle.std.specs.Prelude.{ℕ, List, Float, Result, Ok, Err}
 use Rattle.text.specs.Decode.{Got}
 use Rattle.protocol.specs.Words.{next_fraction}
 use Rattle.protocol_lists.specs.Lists.{fraction_list}
 use Rattle.step.specs.declared.Step as step
 use Rattle.iterate.specs.Refusals.{iter4, iter5}
-use Rattle.iterate.specs.declared.Iterate as iterate
+use Rattle.refusal.specs.Numbers.{number_of}
+use Rattle.refusal.specs.declared.Refusal as refusal
 use Rattle.replies.specs.Requests.{◌>>=◌, named, reply}
 use Rattle.replies.specs.declared.forms.Reply.{Reply}
+use Rattle.step_requests.specs.declared.steps.Iter.{Iter}
+use Rattle.step_requests.specs.declared.steps.Iter.TheVariants.{Four, Five}
 use Rattle.replies.specs.declared.forms.Reply.TheVariants.{Bad, Inadmissible, Parameters, Refused}
 
 -- a step on moments, a mean and a weight
 abbrev pub Stepping : Type 0
-Stepping = List Float → Float → Float → iterate.Iterate
+Stepping = List Float → Float → Float → Result step.Step refusal.Refusal
 
--- the one that reads so many moments, four or five
-abbrev pub stepping : ℕ → Stepping
-stepping reads = cond (eqb reads 4) iter4 iter5
+-- the one that is asked for
+abbrev pub stepping : Iter → Stepping
+stepping Four = iter4
+stepping Five = iter5
 
 -- what a step answers, as a reply
-abbrev pub iterate_reply : iterate.Iterate → Reply
-iterate_reply (iterate.TheVariants.Refused n) = Refused n
-iterate_reply (iterate.TheVariants.Stepped (step.TheVariants.Admitted p)) = Parameters p
-iterate_reply (iterate.TheVariants.Stepped step.TheVariants.Inadmissible) = Inadmissible
+abbrev pub iterate_reply : Result step.Step refusal.Refusal → Reply
+iterate_reply (Ok (step.TheVariants.Admitted p)) = Parameters p
+iterate_reply (Ok step.TheVariants.Inadmissible) = Inadmissible
+iterate_reply (Err e) = Refused (number_of e)
 
 -- the words after the moments
 abbrev pub step_from : Stepping → List Float → List ℕ → Got Reply

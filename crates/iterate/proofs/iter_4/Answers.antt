@@ -1,16 +1,14 @@
 -- `iterate::iter_4` meets its contract: refused, or the step on the first moments. Assumes nothing.
+use Rattle.std.proofs.lemmas.Result.{err_from_is_err_and}
 use Rattle.iterate.specs.Refusals.{iter4}
-use Rattle.iterate.proofs.Refusals.{few, many, taken}
+use Rattle.iterate.proofs.Refusals.{passed_on, steps_4}
 use Rattle.iterate.proofs.iter_4.Goals as goal
 
-pub returns-then-moments-lt4 : goal.returns-then-moments-lt4
+pub returns-in_err-read : goal.returns-in_err-read
 unfolding iter4
-returns-then-moments-lt4 c = few 4 _ _ c.if-moments-lt4.true
-
-pub returns-then-moments-gt16 : goal.returns-then-moments-gt16
-unfolding iter4
-returns-then-moments-gt16 c = many 4 _ _ c.if-moments-lt4.false c.if-moments-gt16.true
+returns-in_err-read c =
+    let p = err_from_is_err_and c.from_residual.result c.from_residual.ensures.1 in
+    rw (p.1, p.2) (passed_on _ _ _ _ c.in_err-read.ensures)
 
 pub returns : goal.returns
-unfolding iter4
-returns c = taken 4 _ _ _ c.if-moments-lt4.false c.if-moments-gt16.false c.four.ensures
+returns c = steps_4 _ _ _ _ _ c.in_ok-read.ensures c.four.ensures

@@ -1,16 +1,14 @@
 -- `iterate::iter_5` meets its contract: refused, or the step on the first moments. Assumes nothing.
+use Rattle.std.proofs.lemmas.Result.{err_from_is_err_and}
 use Rattle.iterate.specs.Refusals.{iter5}
-use Rattle.iterate.proofs.Refusals.{few, many, taken}
+use Rattle.iterate.proofs.Refusals.{passed_on, steps_5}
 use Rattle.iterate.proofs.iter_5.Goals as goal
 
-pub returns-then-moments-lt5 : goal.returns-then-moments-lt5
+pub returns-in_err-read : goal.returns-in_err-read
 unfolding iter5
-returns-then-moments-lt5 c = few 5 _ _ c.if-moments-lt5.true
-
-pub returns-then-moments-gt16 : goal.returns-then-moments-gt16
-unfolding iter5
-returns-then-moments-gt16 c = many 5 _ _ c.if-moments-lt5.false c.if-moments-gt16.true
+returns-in_err-read c =
+    let p = err_from_is_err_and c.from_residual.result c.from_residual.ensures.1 in
+    rw (p.1, p.2) (passed_on _ _ _ _ c.in_err-read.ensures)
 
 pub returns : goal.returns
-unfolding iter5
-returns c = taken 5 _ _ _ c.if-moments-lt5.false c.if-moments-gt16.false c.five.ensures
+returns c = steps_5 _ _ _ _ _ c.in_ok-read.ensures c.five.ensures

@@ -8,12 +8,12 @@ use Rattle.moments.proofs.raw_one.Goals as goal
 
 pub loop-k-init : goal.loop-k-init
 unfolding of_bits
-loop-k-init c = (omega arith, raw_start _ _ _)
+loop-k-init c = raw_start _ _ _
 
 pub loop-k-preserved : goal.loop-k-preserved
 loop-k-preserved c =
-    (omega arith, raw_turn _ _ _ c.loop-k.k _ _ _ _ c.loop-k.invariant.1 c.comb-combin.ensures c.numbered_at-ck.ensures c.powi-p.ensures)
+    raw_turn _ _ _ c.loop-k.k _ _ _ _ c.loop-k.invariant c.comb-combin.ensures c.numbered_at-ck.ensures c.powi-p.ensures
 
 pub returns : goal.returns
 returns c = let e : c.loop-k.k ≡ c.args.n + 1 = omega arith in
-    raw_end _ _ _ c.loop-k.k _ e c.loop-k.invariant.1
+    raw_end _ _ _ c.loop-k.k _ e c.loop-k.invariant

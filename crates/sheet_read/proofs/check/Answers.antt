@@ -2,11 +2,8 @@
 use Prim.Native.Nat.{◌+◌}
 use native.Mathlib.Omega.{arith}
 use Rattle.sheet_forms.proofs.Further.{further}
-use Rattle.sheet_read.proofs.Going.{start, more, fault, whole, sheet_wrong, sheet_many, sheet_good}
+use Rattle.sheet_read.proofs.Going.{more, fault, whole, sheet_wrong, sheet_many, sheet_good}
 use Rattle.sheet_read.proofs.check.Goals as goal
-
-pub loop-at-init : goal.loop-at-init
-loop-at-init c = start _
 
 pub returns-in_default : goal.returns-in_default
 returns-in_default c =
@@ -25,7 +22,7 @@ returns-then-n-gt1024 c =
     let l = c.loop-at in
     let s = c.args.s.now in
     let w = whole s l.at l.n l.invariant (omega arith) in
-    rw (sheet_many s l.invariant.done (omega arith) w (omega (arith, l.invariant.size)))
+    rw (sheet_many s l.invariant.done (omega arith) w (omega (arith, l.invariant.size)), c.into-then-n-gt1024.ensures)
 
 pub returns : goal.returns
 returns c =

@@ -15,7 +15,7 @@ returns-in_default c = stopped kind_5 _ (not_ran _ (c.curves_from.ensures _) c.i
 pub returns-then-p_1 : goal.returns-then-p_1
 unfolding between_5 stops eval of_bits power_of
 returns-then-p_1 c =
-    let first = ran (c.curves_from.ensures _) c.in-Found.is in
+    let first = ran (c.curves_from.ensures _) c.in-Some.is in
     stopped_later kind_5 _ first
     (stop c.if-p_1.true)
     ∙ is_5 _ _ _
@@ -23,7 +23,7 @@ returns-then-p_1 c =
 pub returns-then-a_1_squared : goal.returns-then-a_1_squared
 unfolding between_5 stops eval of_bits power_of
 returns-then-a_1_squared c =
-    let first = ran (c.curves_from.ensures _) c.in-Found.is in
+    let first = ran (c.curves_from.ensures _) c.in-Some.is in
     stopped_later kind_5 _ first
     (pass c.if-p_1.false (then _ refl (stop c.if-a_1_squared.true)))
     ∙ is_5 _ _ _
@@ -31,7 +31,7 @@ returns-then-a_1_squared c =
 pub returns-then-not-is_finite : goal.returns-then-not-is_finite
 unfolding between_5 stops eval of_bits power_of
 returns-then-not-is_finite c =
-    let first = ran (c.curves_from.ensures _) c.in-Found.is in
+    let first = ran (c.curves_from.ensures _) c.in-Some.is in
     stopped_later kind_5 _ first
     (pass c.if-p_1.false (then _ refl
     (pass c.if-a_1_squared.false
@@ -41,7 +41,7 @@ returns-then-not-is_finite c =
 pub returns-then-mu_2_squared : goal.returns-then-mu_2_squared
 unfolding between_5 stops eval of_bits power_of
 returns-then-mu_2_squared c =
-    let first = ran (c.curves_from.ensures _) c.in-Found.is in
+    let first = ran (c.curves_from.ensures _) c.in-Some.is in
     stopped_later kind_5 _ first
     (pass c.if-p_1.false (then _ refl
     (pass c.if-a_1_squared.false
@@ -52,7 +52,7 @@ returns-then-mu_2_squared c =
 pub returns-then-a_2-b_2 : goal.returns-then-a_2-b_2
 unfolding between_5 fifth_moment stops eval of_bits power_of
 returns-then-a_2-b_2 c =
-    let first = ran (c.curves_from.ensures _) c.in-Found.is in
+    let first = ran (c.curves_from.ensures _) c.in-Some.is in
     stopped_later kind_5 _ first
     (pass c.if-p_1.false (then _ refl
     (pass c.if-a_1_squared.false
@@ -66,7 +66,7 @@ returns-then-a_2-b_2 c =
 pub returns : goal.returns
 unfolding between_5 fifth_moment stops eval of_bits power_of
 returns c =
-    let first = ran (c.curves_from.ensures _) c.in-Found.is in
+    let first = ran (c.curves_from.ensures _) c.in-Some.is in
     weighs kind_5 _ first _
     (pass c.if-p_1.false (then _ refl
     (pass c.if-a_1_squared.false

@@ -13,11 +13,11 @@ returns-in_default c = stopped kind_4 _ (not_ran _ (c.curves_from.ensures _) c.i
 pub returns-then-p_1_deno : goal.returns-then-p_1_deno
 unfolding between_4 stops eval of_bits power_of
 returns-then-p_1_deno c =
-    let first = ran (c.curves_from.ensures _) c.in-Found.is in
+    let first = ran (c.curves_from.ensures _) c.in-Some.is in
     stopped_later kind_4 _ first (then _ refl (stop c.if-p_1_deno.true)) ∙ is_4 _ _ _
 
 pub returns : goal.returns
 unfolding between_4 stops eval of_bits power_of
 returns c =
-    let first = ran (c.curves_from.ensures _) c.in-Found.is in
+    let first = ran (c.curves_from.ensures _) c.in-Some.is in
     weighs kind_4 _ first _ (then _ refl (pass c.if-p_1_deno.false (then _ refl done))) _ c.weighed.ensures ∙ is_4 _ _ _

@@ -8,10 +8,10 @@ use Rattle.moment_requests.proofs.orders.centred_reply.Goals as goal
 pub slice_bounds-centered_moment-end : goal.slice_bounds-centered_moment-end
 slice_bounds-centered_moment-end c = sym (length-take-le _ _ (omega arith))
 
-pub returns-in-Refused : goal.returns-in-Refused
-returns-in-Refused c =
-    rw (← take_least _ _ _ c.least-k.ensures, ← c.centered_moment-r.ensures, c.in-Refused.is)
+pub returns-in-Err : goal.returns-in-Err
+returns-in-Err c =
+    rw (← take_least _ _ _ c.least-k.ensures, ← c.centered_moment-r.ensures, c.in-Err.is, c.from.ensures)
 
-pub returns-in-Value : goal.returns-in-Value
-returns-in-Value c =
-    rw (← take_least _ _ _ c.least-k.ensures, ← c.centered_moment-r.ensures, c.in-Value.is)
+pub returns-in-Ok : goal.returns-in-Ok
+returns-in-Ok c =
+    rw (← take_least _ _ _ c.least-k.ensures, ← c.centered_moment-r.ensures, c.in-Ok.is)

@@ -11,14 +11,14 @@ slice_bounds-raw_moment-end c = sym (length-take-le _ _ (omega arith))
 pub slice_bounds-raw_moment-end-3 : goal.slice_bounds-raw_moment-end-3
 slice_bounds-raw_moment-end-3 c = sym (length-take-le _ _ (omega arith))
 
-pub returns-in-Unwritten : goal.returns-in-Unwritten
-returns-in-Unwritten c = (
-  rw (← take_least _ _ _ c.least-k.ensures, ← take_least _ _ _ c.least-places.ensures, ← c.raw_moment-r.ensures.0, c.in-Unwritten.is),
+pub returns-in-Err : goal.returns-in-Err
+returns-in-Err c = (
+  rw (← take_least _ _ _ c.least-k.ensures, ← take_least _ _ _ c.least-places.ensures, ← c.raw_moment-r.ensures.0, c.in-Err.is, c.from.ensures),
   rw (← take_least _ _ _ c.least-k.ensures, ← take_least _ _ _ c.least-places.ensures, ← drop_least _ _ _ c.least-places.ensures, ← c.raw_moment-r.ensures.1),
 )
 
-pub returns-in-Written : goal.returns-in-Written
-returns-in-Written c = (
-  rw (← take_least _ _ _ c.least-k.ensures, ← take_least _ _ _ c.least-places.ensures, ← c.raw_moment-r.ensures.0, c.in-Written.is),
+pub returns-in-Ok : goal.returns-in-Ok
+returns-in-Ok c = (
+  rw (← take_least _ _ _ c.least-k.ensures, ← take_least _ _ _ c.least-places.ensures, ← c.raw_moment-r.ensures.0, c.in-Ok.is),
   rw (← take_least _ _ _ c.least-k.ensures, ← take_least _ _ _ c.least-places.ensures, ← drop_least _ _ _ c.least-places.ensures, ← c.raw_moment-r.ensures.1),
 )

@@ -10,6 +10,3 @@ use Rattle.printing_values.proofs.rows.put_rows.Given as goal
 abbrev pub invariant-loop-i : goal.invariant-loop-i
 invariant-loop-i l =
     Left l.initial.out l.at (rows_from l.columns l.xs 0 (values_of next_instant l.n (drop l.a l.s))) l.out l.to (rows_from l.columns l.xs l.i (values_of next_instant (l.n - l.i) (drop l.k l.s)))
-
-abbrev pub decreases-loop-i : goal.decreases-loop-i
-decreases-loop-i l = l.n - l.i

@@ -8,18 +8,18 @@ use Rattle.step.specs.Parts.{variance_at}
 use Rattle.step.proofs.FirstHalf.{deviations, zero, below, on}
 use Rattle.step.proofs.curves.curves_from.Goals as goal
 
-pub returns-then-v : goal.returns-then-v
+pub returns-then-den_24 : goal.returns-then-den_24
 unfolding variance_at eval of_bits power_of
-returns-then-v c ms = zero _ _ _ _ c.variance_at-v.ensures c.if-v.true
+returns-then-den_24 c ms = zero _ _ _ _ c.variance_at-mu_1.ensures c.if-den_24.true
 
-pub returns-then-v-2 : goal.returns-then-v-2
+pub returns-then-sigma_2_squared : goal.returns-then-sigma_2_squared
 unfolding variance_at eval of_bits power_of
-returns-then-v-2 c ms = below _ _ _ _ c.variance_at-v.ensures c.if-v-2.true
+returns-then-sigma_2_squared c ms = below _ _ _ _ c.variance_at-mu_1.ensures c.if-sigma_2_squared.true
 
 pub returns-then-sigma_1_squared : goal.returns-then-sigma_1_squared
 unfolding variance_at deviations stops eval of_bits power_of
-returns-then-sigma_1_squared c ms = on _ _ _ _ c.variance_at-v.ensures _
-    c.if-v.false c.if-v-2.false
+returns-then-sigma_1_squared c ms = on _ _ _ _ c.variance_at-mu_1.ensures _
+    c.if-den_24.false c.if-sigma_2_squared.false
     (then c.sqrt-sigma_2.result c.sqrt-sigma_2.ensures
     (then _ refl (stop c.if-sigma_1_squared.true)))
 
@@ -30,8 +30,8 @@ returns c ms = record {
   sigma2² = _;
   sigma1² = _;
   runs =
-      on _ _ _ _ c.variance_at-v.ensures (admitted _)
-      c.if-v.false c.if-v-2.false
+      on _ _ _ _ c.variance_at-mu_1.ensures (admitted _)
+      c.if-den_24.false c.if-sigma_2_squared.false
       (then c.sqrt-sigma_2.result c.sqrt-sigma_2.ensures
       (then _ refl (pass c.if-sigma_1_squared.false
       (then c.sqrt.result c.sqrt.ensures done))));

@@ -11,4 +11,4 @@ returns-in_default c = rw (no_list next_fraction _ (rw c.in_default.is at c.read
 pub returns : goal.returns
 returns c =
     let a = c.args in
-    a_step a.reads (drop a.at a.s.now) _ _ _ _ (rw c.in-Is.is at c.read_next_list.ensures.0) c.read_next_list.ensures.1 c.step_from.ensures
+    a_step a.iter (drop a.at a.s.now) _ _ _ _ (rw c.in-Is.is at c.read_next_list.ensures.0) c.read_next_list.ensures.1 c.step_from.ensures

@@ -1,9 +1,0 @@
--- `moments::at_least_one` meets its contract. Assumes nothing.
-use borrow.Author.Tests.{lt-ltb, le-ltb}
-use Rattle.moments.proofs.at_least_one.Goals as goal
-
-pub returns-then-n-lt1 : goal.returns-then-n-lt1
-returns-then-n-lt1 c = simp (lt-ltb _ _ c.if-n-lt1.true)
-
-pub returns-else-n-lt1 : goal.returns-else-n-lt1
-returns-else-n-lt1 c = simp (le-ltb _ _ c.if-n-lt1.false)
