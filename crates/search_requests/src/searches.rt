@@ -1,7 +1,7 @@
 // The request of one search. A list of moments longer than 16 is read, and refused by the library. A
 // weight has 17 bytes of a line of at most 65,535 bytes, so a line has fewer than 4,096 of them.
 ghost use Rattle.std.specs.Prelude.{◌≡◌, drop};
-ghost use Rattle.search_requests.specs.Searches.{ended_search, given_is, next_given, no_row, overriding, search_from, search_of, searched_reply, searches, single, weights_from};
+ghost use Rattle.search_requests.specs.Searches.{ended_search, given_is, next_given, overriding, search_from, search_of, searched_reply, searches, single, weights_from};
 ghost use Rattle.replies.specs.Requests.{only};
 
 use grid::{FitResultRow, Fitted};
@@ -133,7 +133,8 @@ fn ended(m: M2N, best: Option<FitResultRow>) -> Search
 {
     match best {
         Some(row) => search_of(m, true, row),
-        None => search_of(m, false, no_row()),
+        // zeros stand for a row where there is none
+        None => search_of(m, false, FitResultRow::default()),
     }
 }
 
@@ -148,19 +149,5 @@ fn search_of(m: M2N, is_row: bool, r: FitResultRow) -> Search
         error: m.error,
         epsilon: m.epsilon,
         new_moments: m.new_moments,
-    }
-}
-
-// Stands for a row where there is none.
-fn no_row() -> FitResultRow
-    ensures { result ≡ no_row }
-{
-    FitResultRow {
-        mu_1: 0.0,
-        mu_2: 0.0,
-        sigma_1: 0.0,
-        sigma_2: 0.0,
-        p_1: 0.0,
-        error: 0.0,
     }
 }
