@@ -11,7 +11,7 @@ use moments::{Five, Params};
 use walk::M2N;
 
 // One fitted mixture.
-#[derive(Clone, Copy)]
+#[derive(Clone, Copy, Default)]
 pub struct FitResultRow {
     pub mu_1: f64,
     pub mu_2: f64,

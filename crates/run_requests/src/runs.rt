@@ -155,18 +155,6 @@ fn fill(m: M2N, weights: &[f64], places: usize, xs: &mut [f64]) -> Reply
     }
 }
 
-// Stands in the places of rows that are not there.
-fn no_row() -> FitResultRow {
-    FitResultRow {
-        mu_1: 0.0,
-        mu_2: 0.0,
-        sigma_1: 0.0,
-        sigma_2: 0.0,
-        p_1: 0.0,
-        error: 0.0,
-    }
-}
-
 // How the runs ended, and their rows in the first of 64. mp_fit has room for 64; where there is room for
 // fewer rows than runs, mp_fit_flat, which is told the room, refuses.
 fn rows_of(m: M2N, weights: &[f64], room: usize) -> Runs
@@ -175,11 +163,11 @@ fn rows_of(m: M2N, weights: &[f64], room: usize) -> Runs
 {
     if room < m.n_runs {
         return Runs {
-            rows: [no_row(); 64],
+            rows: [FitResultRow::default(); 64],
             outcome: fit_runs::mp_fit_flat(m, weights, room).outcome,
         };
     }
-    ef3m_runs::mp_fit_through(m, weights, [no_row(); 64])
+    ef3m_runs::mp_fit_through(m, weights, [FitResultRow::default(); 64])
 }
 
 // Puts the rows in front of xs, six numbers each. Its places past them stay.
