@@ -11,7 +11,7 @@ use moments::{Five, Params};
 use walk::M2N;
 
 // One fitted mixture.
-#[derive(Clone, Copy)]
+#[derive(Clone, Copy, Default)]
 pub struct FitResultRow {
     pub mu_1: f64,
     pub mu_2: f64,
@@ -91,6 +91,7 @@ pub struct Search {
 }
 
 // The starting mean of row i.
+#[tactic(auto, unfolding(crate::specs::Rows::mean_of))]
 fn mean_of(m: M2N, deviation: f64, i: usize) -> f64
     requires { i ≤ 131072 }
     ensures { result ≡ mean_of m deviation i }
@@ -165,6 +166,7 @@ fn walk_block(s: Search, m: M2N, deviation: f64, weights: &[f64], from: usize, k
 
 // A walk from each row's mean and weight; the error carries over. Of more weights than 131,072, which
 // is more than a search has rows, the first are walked from.
+#[tactic(auto, unfolding(crate::specs::Rows::search_to))]
 pub fn walk_rows(m: M2N, deviation: f64, weights: &[f64]) -> Search
     ensures { result ≡ search_to m deviation weights.now (min (length weights.now) 131072) }
 {

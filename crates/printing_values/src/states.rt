@@ -3,7 +3,7 @@ ghost use Rattle.printing_values.specs.Texts.{Puts};
 ghost use Rattle.printing_values.specs.Values.{found, searched, walked};
 
 use crate::numbers;
-use grid::FitResultRow;
+use grid_rows::FitResultRow;
 use protocol_lists::State;
 use replies::{Report, Search};
 

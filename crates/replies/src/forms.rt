@@ -1,5 +1,5 @@
 // The replies.
-use grid::FitResultRow;
+use grid_rows::FitResultRow;
 use moments::{Five, Params};
 use protocol_lists::State;
 use refusal::Refusal;

@@ -6,7 +6,6 @@ use Rattle.protocol.specs.Words.{next_fraction, next_natural}
 use Rattle.protocol_lists.specs.Lists.{fraction_list, in_front, next_state}
 use Rattle.walk.specs.declared.M2N.{M2N}
 use Rattle.walk_requests.specs.Walks.{state_from}
-use Rattle.refusal.specs.Numbers.{number_of}
 use Rattle.refusal.specs.declared.Refusal.{Refusal}
 use Rattle.grid_rows.specs.declared.FitResultRow.{FitResultRow}
 use Rattle.fit_runs.specs.Runs.{flat_of, mp_fit, run_rows}
@@ -68,7 +67,7 @@ room places n = min places (n / 6)
 
 abbrev pub filled_reply : Result ℕ Refusal → Reply
 filled_reply (Ok n) = Listed n (6 * n)
-filled_reply (Err e) = Refused (number_of e)
+filled_reply (Err e) = Refused e
 
 abbrev pub runs_reply : ℕ → Asked → Reply
 runs_reply n a = filled_reply (mp_fit a.state a.weights (room a.places n))

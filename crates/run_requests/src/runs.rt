@@ -151,19 +151,7 @@ fn fill(m: M2N, weights: &[f64], places: usize, xs: &mut [f64]) -> Reply
             put_rows(xs, &r.rows[..n]);
             Reply::Listed(n, 6 * n)
         }
-        Err(refusal) => Reply::Refused(u64::from(refusal)),
-    }
-}
-
-// Stands in the places of rows that are not there.
-fn no_row() -> FitResultRow {
-    FitResultRow {
-        mu_1: 0.0,
-        mu_2: 0.0,
-        sigma_1: 0.0,
-        sigma_2: 0.0,
-        p_1: 0.0,
-        error: 0.0,
+        Err(refusal) => Reply::Refused(refusal),
     }
 }
 
@@ -175,11 +163,11 @@ fn rows_of(m: M2N, weights: &[f64], room: usize) -> Runs
 {
     if room < m.n_runs {
         return Runs {
-            rows: [no_row(); 64],
+            rows: [FitResultRow::default(); 64],
             outcome: fit_runs::mp_fit_flat(m, weights, room).outcome,
         };
     }
-    ef3m_runs::mp_fit_through(m, weights, [no_row(); 64])
+    ef3m_runs::mp_fit_through(m, weights, [FitResultRow::default(); 64])
 }
 
 // Puts the rows in front of xs, six numbers each. Its places past them stay.

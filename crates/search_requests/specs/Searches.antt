@@ -1,11 +1,8 @@
 -- The request of one search, by its words and what they come to, and the reply to a line. Definitions only.
-use Rattle.std.specs.Prelude.{ℕ, ◌-◌, ◌^◌, List, Float, Option, Some, None, drop, length, replicate, take, Bool, true, false, Result, Ok, Err}
+use Rattle.std.specs.Prelude.{ℕ, ◌-◌, ◌^◌, List, Float, drop, length, replicate, take, Option, Some, None, Result, Ok, Err}
 use Rattle.float.specs.Constants.{nought}
-use Rattle.refusal.specs.Numbers.{number_of}
 use Rattle.refusal.specs.declared.Refusal.{Refusal}
-use Rattle.grid_rows.specs.FitResultRow.{params_of, row_of}
 use Rattle.grid_rows.specs.declared.FitResultRow.{FitResultRow}
-use Rattle.grid.specs.Rows.{zeros}
 use Rattle.grid.specs.Search.{single_fit}
 use Rattle.grid.specs.declared.Fitted.{Fitted}
 use Rattle.text.specs.Bytes.{bytes}
@@ -45,25 +42,18 @@ abbrev pub given_is : List ℕ → given.Given → Got (Option Float)
 given_is s (given.TheVariants.Is e k) = got e (drop k s)
 given_is s given.TheVariants.No = bad
 
--- the row, if there is one
-abbrev pub row_in : Best → Option FitResultRow
-row_in (Row r) = Some r
-row_in Nothing = None
-
--- that row, and the state after the search
-abbrev pub ended_search : M2N → Best → Search
-ended_search m best = record {
-  row = row_in best;
-  parameters = m.parameters;
-  error = m.error;
+-- the row, if there is one, and the state after the search
+abbrev pub ended_search : M2N → Option FitResultRow → Search
+ended_search m row = record {
+  row = row;
+  state = record { parameters = m.parameters; error = m.error; new_moments = m.new_moments };
   epsilon = m.epsilon;
-  new_moments = m.new_moments;
 }
 
 -- how a search ended, with the state after it, as a reply
 abbrev pub outcome_reply : Result (Option FitResultRow) Refusal → M2N → Reply
 outcome_reply (Ok best) m = Searched (ended_search m best)
-outcome_reply (Err e) m = Refused (number_of e)
+outcome_reply (Err e) m = Refused e
 
 abbrev pub searched_reply : Fitted → Reply
 searched_reply f = outcome_reply f.outcome f.state

@@ -122,19 +122,21 @@ fn reply(f: Fitted) -> Reply
     ensures { result ≡ searched_reply f }
 {
     match f.outcome {
-        Ok(best) => Reply::Searched(ended(f.state, best)),
-        Err(refusal) => Reply::Refused(u64::from(refusal)),
+        Ok(row) => Reply::Searched(ended(f.state, row)),
+        Err(refusal) => Reply::Refused(refusal),
     }
 }
 
-fn ended(m: M2N, best: Option<FitResultRow>) -> Search
-    ensures { result ≡ ended_search m best }
+fn ended(m: M2N, row: Option<FitResultRow>) -> Search
+    ensures { result ≡ ended_search m row }
 {
     Search {
-        row: best,
-        parameters: m.parameters,
-        error: m.error,
+        row,
+        state: State {
+            parameters: m.parameters,
+            error: m.error,
+            new_moments: m.new_moments,
+        },
         epsilon: m.epsilon,
-        new_moments: m.new_moments,
     }
 }
