@@ -1,6 +1,7 @@
 -- The requests of the counts and the budget over spans: their words, the reply to a line, and what the lent list holds after it. Definitions only.
-use Rattle.std.specs.Prelude.{ℕ, ◌-◌, ◌/◌, ◌^◌, min, Bool, true, false, cond, Result, Ok, Err, List, ◌++◌, ℤ, Float, drop, length, take}
+use Rattle.std.specs.Prelude.{ℕ, ◌-◌, ◌/◌, ◌^◌, min, Bool, cond, Result, Ok, Err, List, ◌++◌, ℤ, Float, drop, length, take}
 use Rattle.budget.specs.Budget.{budget_sizes}
+use Rattle.bet_sizing.specs.declared.counts.Side.TheVariants.{Long, Short}
 use Rattle.bet_sizing.specs.Counts.{concurrent_counts}
 use Rattle.bet_sizing.specs.Refusals.{list_after, spans_refusal}
 use Rattle.refusal.specs.Numbers.{number_of, unless_refused}
@@ -60,8 +61,8 @@ sides_reply n a = rows 2 a (unless_refused (sides_refusal n a) (length a.starts)
 
 abbrev pub sides_in : List Float → Asked → List Float
 sides_in xs a =
-    column (sides_refusal (length xs) a) a (concurrent_counts true a.starts a.ends a.sides) (take (length xs / 2) xs)
-    ++ column (sides_refusal (length xs) a) a (concurrent_counts false a.starts a.ends a.sides) (drop (length xs / 2) xs)
+    column (sides_refusal (length xs) a) a (concurrent_counts Long a.starts a.ends a.sides) (take (length xs / 2) xs)
+    ++ column (sides_refusal (length xs) a) a (concurrent_counts Short a.starts a.ends a.sides) (drop (length xs / 2) xs)
 
 -- the sizes are one column
 abbrev pub sizes_reply : ℕ → Asked → Reply

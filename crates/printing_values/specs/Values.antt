@@ -1,6 +1,6 @@
 -- The values of a reply, as docs/REQUESTS.md lists them: texts that are put one after another, each value after a blank. Definitions only.
 use Rattle.std.specs.Prelude.{ℕ, List, [], ◌∷◌, ◌++◌, Float, Option, Some, None, take}
-use Rattle.grid.specs.declared.FitResultRow.{FitResultRow}
+use Rattle.grid_rows.specs.declared.FitResultRow.{FitResultRow}
 use Rattle.moments.specs.Figures.{listed, params_listed}
 use Rattle.refusal.specs.Numbers.{number_of}
 use Rattle.text.specs.Bytes.{bytes}
@@ -25,7 +25,7 @@ searched f = found f.row ++ (bytes " state" ∷ fractions (params_listed f.state
 
 -- the values of a reply, for the request s and the list xs that stands beside the reply
 abbrev pub values : reply.Reply → List ℕ → List Float → List (List ℕ)
-values (reply.TheVariants.Refused e) s xs = natural (number_of e)
+values (reply.TheVariants.Refused refusal) s xs = natural (number_of refusal)
 values (reply.TheVariants.Fraction x) s xs = fractions (x ∷ [])
 values (reply.TheVariants.Natural n) s xs = natural n
 values (reply.TheVariants.Instant i) s xs = instant i
