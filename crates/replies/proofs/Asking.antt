@@ -5,7 +5,7 @@ use mathlib.Core.Bool.{Bool, true, false, cond}
 use mathlib.Core.List.{List, [], ◌∷◌, ◌++◌}
 use borrow.Author.Tests.{eqb-true}
 use lib.Dec.{eqb}
-use Rattle.std.specs.Prelude.{Some}
+use Rattle.std.specs.Prelude.{Some, None}
 use Rattle.text.specs.Bytes.{bytes}
 use Rattle.text.specs.Decode.{Got, got, bad, ◌▷◌, word}
 use Rattle.protocol.specs.Words.{only, words_after}
@@ -16,6 +16,11 @@ module _ {A : Type 0} where
   only_some (got x []) e = cc
   only_some (got x (b ∷ s)) e = cc
   only_some bad e = cc
+
+  pub only_none : {B : Type 0} (f : A → B) (g : Got A) → None ≡ only g → None ≡ only (g ▷ (λ a s. got (f a) s))
+  only_none f (got x []) e = cc
+  only_none f (got x (b ∷ s)) e = refl
+  only_none f bad e = refl
 
 -- ---- a line that begins with a name is the name and what follows it
 abbrev left : List ℕ → Got (Unit {0})
