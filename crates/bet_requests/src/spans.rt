@@ -2,11 +2,12 @@
 // fewer than 4,096 of them. More starts or ends are unequal to them in number, also when cut to their
 // 4,096 places.
 ghost use Rattle.std.specs.Prelude.{◌≤◌, ◌≡◌, drop, length};
-ghost use Rattle.bet_requests.specs.Spans.{asked_of, left_by, reply_of, sides_in, sides_reply, sizes_in, sizes_reply, spans, spans_in, words};
+ghost use Rattle.bet_requests.specs.Spans.{Asked as Asking, asked_of, left_by, reply_of, sides_in, sides_reply, sizes_in, sizes_reply, spans, spans_in, words};
 ghost use Rattle.replies.specs.Requests.{only, only_or};
 
 use protocol_lists::List;
 use replies::{Reply, SpanRows};
+use std::marker::Model;
 use text::Number;
 
 // The fractions of an answer are left in xs.
@@ -70,6 +71,67 @@ fn request(s: &[u8], at: usize, counts: bool, xs: &mut [f64]) -> Reply
     )
 }
 
+// What is asked: the room for the answer, the place in the line before the starts, and the spans.
+#[derive(Drop)]
+struct Asked<'a> {
+    room: usize,
+    from: usize,
+    starts: &'a [i64],
+    ends: &'a [i64],
+    sides: &'a [f64],
+}
+
+impl<'a> Model for Asked<'a> {
+    ghost Value = { Asking };
+
+    ghost view = { λ a. asked_of a.room a.from a.starts.now a.ends.now a.sides.now };
+
+    ghost invariant = { λ a. length a.starts.now ≤ 4096 };
+}
+
+impl Asked<'_> {
+    // The counts of longs go into the first half of xs, those of shorts into the second.
+    fn sides_reply(&self, xs: &mut [f64]) -> Reply
+        ensures { (result ≡ sides_reply (length xs.old) self.now) × (xs.new ≡ sides_in xs.old self.now) }
+    {
+        let half = xs.len() / 2;
+        let places = self.room.min(half);
+        let mut short = fractions_room();
+        let counted = bet_sizing::get_concurrent_sides(
+            self.starts,
+            self.ends,
+            self.sides,
+            &mut xs[..places],
+            &mut short,
+        );
+        match counted {
+            Ok(count) => {
+                xs[half..half + count].copy_from_slice(&short[..count]);
+                Reply::Spanned(SpanRows {
+                    count,
+                    columns: 2,
+                    starts: self.from,
+                })
+            }
+            Err(refusal) => Reply::Refused(u64::from(refusal)),
+        }
+    }
+
+    fn sizes_reply(&self, xs: &mut [f64]) -> Reply
+        ensures { (result ≡ sizes_reply (length xs.old) self.now) × (xs.new ≡ sizes_in xs.old self.now) }
+    {
+        let places = self.room.min(xs.len());
+        match budget::bet_size_budget(self.starts, self.ends, self.sides, &mut xs[..places]) {
+            Ok(count) => Reply::Spanned(SpanRows {
+                count,
+                columns: 1,
+                starts: self.from,
+            }),
+            Err(refusal) => Reply::Refused(u64::from(refusal)),
+        }
+    }
+}
+
 fn spans_reply(
     counts: bool,
     starts: &[i64],
@@ -83,59 +145,16 @@ fn spans_reply(
     ensures { (result ≡ reply_of counts (length xs.old) (asked_of room from starts.now ends.now sides.now))
         × (xs.new ≡ left_by counts xs.old (asked_of room from starts.now ends.now sides.now)) }
 {
+    let asked = Asked {
+        room,
+        from,
+        starts,
+        ends,
+        sides,
+    };
     if counts {
-        return sides_reply(starts, ends, sides, room, from, xs);
-    }
-    sizes_reply(starts, ends, sides, room, from, xs)
-}
-
-// The counts of longs go into the first half of xs, those of shorts into the second.
-fn sides_reply(
-    starts: &[i64],
-    ends: &[i64],
-    sides: &[f64],
-    room: usize,
-    from: usize,
-    xs: &mut [f64],
-) -> Reply
-    requires { length starts.now ≤ 4096 }
-    ensures { (result ≡ sides_reply (length xs.old) (asked_of room from starts.now ends.now sides.now))
-        × (xs.new ≡ sides_in xs.old (asked_of room from starts.now ends.now sides.now)) }
-{
-    let half = xs.len() / 2;
-    let places = room.min(half);
-    let mut short = fractions_room();
-    match bet_sizing::get_concurrent_sides(starts, ends, sides, &mut xs[..places], &mut short) {
-        Ok(count) => {
-            xs[half..half + count].copy_from_slice(&short[..count]);
-            Reply::Spanned(SpanRows {
-                count,
-                columns: 2,
-                starts: from,
-            })
-        }
-        Err(refusal) => Reply::Refused(u64::from(refusal)),
-    }
-}
-
-fn sizes_reply(
-    starts: &[i64],
-    ends: &[i64],
-    sides: &[f64],
-    room: usize,
-    from: usize,
-    xs: &mut [f64],
-) -> Reply
-    ensures { (result ≡ sizes_reply (length xs.old) (asked_of room from starts.now ends.now sides.now))
-        × (xs.new ≡ sizes_in xs.old (asked_of room from starts.now ends.now sides.now)) }
-{
-    let places = room.min(xs.len());
-    match budget::bet_size_budget(starts, ends, sides, &mut xs[..places]) {
-        Ok(count) => Reply::Spanned(SpanRows {
-            count,
-            columns: 1,
-            starts: from,
-        }),
-        Err(refusal) => Reply::Refused(u64::from(refusal)),
+        asked.sides_reply(xs)
+    } else {
+        asked.sizes_reply(xs)
     }
 }
