@@ -7,12 +7,13 @@ use Rattle.text.specs.Bytes.{bytes}
 use Rattle.replies.specs.declared.forms.Report.{Report}
 use Rattle.replies.specs.declared.forms.Reply as reply
 use Rattle.replies.specs.declared.forms.Search.{Search}
+use Rattle.walk.specs.Reasons as reason
 use Rattle.printing_values.specs.Rows.{rows}
 use Rattle.printing_values.specs.Texts.{fractions, instant, natural}
 
 -- how a walk ended, and the state after it
 abbrev pub walked : Report → List (List ℕ)
-walked w = natural w.count ++ (natural w.reason ++ fractions (params_listed w.state.parameters ++ (w.state.error ∷ listed w.state.new_moments)))
+walked w = natural w.ended.count ++ (natural (reason.number_of w.ended.reason) ++ fractions (params_listed w.state.parameters ++ (w.state.error ∷ listed w.state.new_moments)))
 
 -- the row that a search found, if it found one
 abbrev pub found : Option FitResultRow → List (List ℕ)

@@ -10,8 +10,8 @@ use replies::{Report, Search};
 pub(crate) fn put_walk(out: &mut [u8], at: usize, w: Report) -> usize
     ensures { Puts out.old out.new at result (walked w) }
 {
-    let a = numbers::put_natural(out, at, w.count);
-    let b = numbers::put_natural(out, a, w.reason);
+    let a = numbers::put_natural(out, at, w.ended.count as u64);
+    let b = numbers::put_natural(out, a, u64::from(w.ended.reason));
     let State {
         parameters: p,
         error,
