@@ -1,10 +1,10 @@
 // The rows of a search, each a walk from its mean and its weight.
 #![tactic(auto)]
 
-ghost use Rattle.std.specs.Prelude.{◌≡◌, ◌+◌, ◌*◌, ◌≤◌, min, length};
+ghost use Rattle.std.specs.Prelude.{◌≡◌, ◌+◌, ◌≤◌, min, length};
 ghost use Rattle.moments.specs.Figures.{listed};
 ghost use Rattle.walk.specs.Walk.{walk_of};
-ghost use Rattle.grid_rows.specs.FitResultRow.{params_of, row_at, row_of, with_row_at};
+ghost use Rattle.grid_rows.specs.FitResultRow.{params_of, row_of, six};
 ghost use Rattle.grid_rows.specs.Rows.{Means, Variances, looked, mean_of, search_to};
 
 use moments::{Five, Params};
@@ -34,36 +34,6 @@ impl FitResultRow {
             error,
         }
     }
-
-    // Row i of flat numbers, six a row.
-    pub fn from_flat(numbers: &[f64], i: usize) -> FitResultRow
-        requires { 6 * i + 6 ≤ length numbers.now }
-        ensures { result ≡ row_at numbers.now i }
-    {
-        FitResultRow {
-            mu_1: numbers[6 * i],
-            mu_2: numbers[6 * i + 1],
-            sigma_1: numbers[6 * i + 2],
-            sigma_2: numbers[6 * i + 3],
-            p_1: numbers[6 * i + 4],
-            error: numbers[6 * i + 5],
-        }
-    }
-
-    // Puts it into flat numbers as their row i.
-    pub fn put_flat(self, numbers: &mut [f64], i: usize)
-        requires { 6 * i + 6 ≤ length numbers.old }
-        ensures { numbers.new ≡ with_row_at numbers.old i self }
-    {
-        numbers[6 * i..6 * i + 6].copy_from_slice(&[
-            self.mu_1,
-            self.mu_2,
-            self.sigma_1,
-            self.sigma_2,
-            self.p_1,
-            self.error,
-        ]);
-    }
 }
 
 impl From<FitResultRow> for Params {
@@ -79,6 +49,23 @@ impl From<FitResultRow> for Params {
             sigma_2: row.sigma_2,
             p_1: row.p_1,
         }
+    }
+}
+
+impl From<FitResultRow> for [f64; 6] {
+    ghost from_gives = { λ row numbers. numbers ≡ six row };
+
+    fn from(row: FitResultRow) -> [f64; 6]
+        ensures { result ≡ six row }
+    {
+        [
+            row.mu_1,
+            row.mu_2,
+            row.sigma_1,
+            row.sigma_2,
+            row.p_1,
+            row.error,
+        ]
     }
 }
 
