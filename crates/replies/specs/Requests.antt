@@ -1,10 +1,12 @@
 -- The reply to a line. A request is told by its name; then come its words, each of a form, and nothing after them. Definitions only.
-use Rattle.std.specs.Prelude.{ℕ, List, [], ◌∷◌, Option}
+use Rattle.std.specs.Prelude.{ℕ, List, [], ◌∷◌, Option, Result, Ok, Err}
 use Prim.Native.String.{String}
 use Rattle.text.specs.Bytes.{bytes}
 use Rattle.text.specs.Decode.{Got, got, bad, ◌▷◌}
 use Rattle.protocol.specs.Words.{only, words_after}
+use Rattle.refusal.specs.declared.Refusal.{Refusal}
 use Rattle.replies.specs.declared.forms.Reply.{Reply}
+use Rattle.replies.specs.declared.forms.Reply.TheVariants.{Refused}
 
 -- one form after another, so that `do` lists a request's words
 module _ {A B : Type 0} where
@@ -34,3 +36,9 @@ module _ {A : Type 0} where
 -- the reply to a line that begins with a name and a blank, by the words after the name: None where something follows them, or one is not of its form; to any other line, `other`
 abbrev pub named : String → (List ℕ → Got Reply) → List ℕ → Option Reply → Option Reply
 named name words s other = after name (λ t. only (words t)) s other
+
+-- the reply by what a library answers: its refusal, or what its value is replied as
+module _ {A : Type 0} where
+  abbrev pub or_refused : (A → Reply) → Result A Refusal → Reply
+  or_refused value (Ok x) = value x
+  or_refused value (Err e) = Refused e
