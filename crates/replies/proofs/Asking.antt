@@ -5,10 +5,13 @@ use mathlib.Core.Bool.{Bool, true, false, cond}
 use mathlib.Core.List.{List, [], ◌∷◌, ◌++◌}
 use borrow.Author.Tests.{eqb-true}
 use lib.Dec.{eqb}
-use Rattle.std.specs.Prelude.{Some}
+use Rattle.std.specs.Prelude.{Some, None}
 use Rattle.text.specs.Bytes.{bytes}
 use Rattle.text.specs.Decode.{Got, got, bad, ◌▷◌, word}
 use Rattle.protocol.specs.Words.{only, words_after}
+use Rattle.protocol_lists.specs.Lists.{a_list, list_of}
+use Rattle.protocol_lists.proofs.Listing.{list_got, no_list}
+use Rattle.replies.specs.Requests.{only_or}
 
 -- the last word, where nothing follows it
 module _ {A : Type 0} where
@@ -16,6 +19,23 @@ module _ {A : Type 0} where
   only_some (got x []) e = cc
   only_some (got x (b ∷ s)) e = cc
   only_some bad e = cc
+
+  pub only_none : {B : Type 0} (f : A → B) (g : Got A) → None ≡ only g → None ≡ only (g ▷ (λ a s. got (f a) s))
+  only_none f (got x []) e = cc
+  only_none f (got x (b ∷ s)) e = refl
+  only_none f bad e = refl
+
+  pub only_old : {B : Type 0} (f : A → B) (old : B) (g : Got A) → None ≡ only g → old ≡ only_or old (g ▷ (λ a s. got (f a) s))
+  only_old f old (got x []) e = cc
+  only_old f old (got x (b ∷ s)) e = refl
+  only_old f old bad e = refl
+
+  -- where the last is a list, as it was read
+  pub only_list : {B : Type 0} (form : List ℕ → Got A) (f : List A → B) (s : List ℕ) (g : Got ℕ) → list_of form s ≡ g → None ≡ only g
+      → None ≡ only (a_list form s ▷ (λ v t. got (f v) t))
+  only_list form f s (got n []) is e = cc
+  only_list form f s (got n (b ∷ t)) is e = rw (list_got form n s (b ∷ t) is) refl
+  only_list form f s bad is e = rw (no_list form s is) refl
 
 -- ---- a line that begins with a name is the name and what follows it
 abbrev left : List ℕ → Got (Unit {0})
