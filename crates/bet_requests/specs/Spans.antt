@@ -1,6 +1,7 @@
 -- The requests of the counts and the budget over spans: their words, the reply to a line, and what the lent list holds after it. Definitions only.
-use Rattle.std.specs.Prelude.{ℕ, ◌-◌, ◌/◌, ◌^◌, min, true, false, Option, None, Result, List, ◌++◌, ℤ, Float, drop, length, take}
+use Rattle.std.specs.Prelude.{ℕ, ◌-◌, ◌/◌, ◌^◌, min, Option, None, Result, List, ◌++◌, ℤ, Float, drop, length, take}
 use Rattle.budget.specs.Budget.{budget_sizes}
+use Rattle.bet_sizing.specs.declared.counts.Side.TheVariants.{Long, Short}
 use Rattle.bet_sizing.specs.Counts.{concurrent_counts}
 use Rattle.bet_sizing.specs.Refusals.{list_after, spans_refusal}
 use Rattle.refusal.specs.Numbers.{unless_refused}
@@ -70,8 +71,8 @@ sides_reply n a = or_refused Spanned (sides_rows n a)
 
 abbrev pub sides_in : List Float → Asked → List Float
 sides_in xs a =
-    column (sides_refusal (length xs) a) a (concurrent_counts true a.starts a.ends a.sides) (take (length xs / 2) xs)
-    ++ column (sides_refusal (length xs) a) a (concurrent_counts false a.starts a.ends a.sides) (drop (length xs / 2) xs)
+    column (sides_refusal (length xs) a) a (concurrent_counts Long a.starts a.ends a.sides) (take (length xs / 2) xs)
+    ++ column (sides_refusal (length xs) a) a (concurrent_counts Short a.starts a.ends a.sides) (drop (length xs / 2) xs)
 
 -- the sizes are one column
 abbrev pub sizes_rows : ℕ → Asked → Result SpanRows Refusal

@@ -4,4 +4,3 @@ pub mod Netting
 pub mod Ranks
 pub mod Refusing
 pub mod Searching
-pub mod Signs

@@ -1,8 +1,9 @@
 -- What the counts answer, and what the lent lists hold after it: document 01's refusals in its order, which are the budget's too. Definitions only.
-use Rattle.std.specs.Prelude.{ℕ, min, ◌≡◌, true, false, not, ◌&&◌, cond, Result, Ok, Err, List, ◌++◌, eqb, ltb, length, drop, ℤ, Float}
+use Rattle.std.specs.Prelude.{ℕ, min, ◌≡◌, not, ◌&&◌, cond, Result, Ok, Err, List, ◌++◌, eqb, ltb, length, drop, ℤ, Float}
 use Rattle.refusal.specs.Numbers.{unless_refused}
 use Rattle.refusal.specs.declared.Refusal.{Refusal}
 use Rattle.refusal.specs.declared.Refusal.TheVariants.{TooLittleRoom, TooLarge, UnequalLengths}
+use Rattle.bet_sizing.specs.declared.counts.Side.TheVariants.{Long, Short}
 use Rattle.bet_sizing.specs.Counts.{concurrent_counts}
 
 -- starts, ends and sides unequal in number; more than 16,384 spans; less room than spans
@@ -21,5 +22,5 @@ counts_refusal ss es ds long short = spans_refusal (length ss) (length es) (leng
 -- get_concurrent_sides: its answer, and the two lent lists before and after it
 pub record ConcurrentSides (ss es : List ℤ) (ds long long' short short' : List Float) (answer : Result ℕ Refusal) : Type 0 where
   pub answered : answer ≡ unless_refused (counts_refusal ss es ds long short) (length ss)
-  pub longs : long' ≡ list_after (counts_refusal ss es ds long short) (length ss) (concurrent_counts true ss es ds) long
-  pub shorts : short' ≡ list_after (counts_refusal ss es ds long short) (length ss) (concurrent_counts false ss es ds) short
+  pub longs : long' ≡ list_after (counts_refusal ss es ds long short) (length ss) (concurrent_counts Long ss es ds) long
+  pub shorts : short' ≡ list_after (counts_refusal ss es ds long short) (length ss) (concurrent_counts Short ss es ds) short

@@ -1,49 +1,36 @@
 // How many spans of each side are live at each span's start: starts up to then less ends up to
 // then, each found by its rank in a sorted list.
-ghost use Rattle.std.specs.Prelude.{◌≡◌, ◌&&◌};
+ghost use Rattle.std.specs.Prelude.{◌≡◌, ◌≤◌, ◌<◌, ◌&&◌, length, slice_index};
 ghost use Rattle.std.specs.Int.Signed.{lt_z};
-ghost use Rattle.bet_sizing.specs.Counting.{Accepted, AcceptedIn, Collectable, Collected, Counted, Nettable, Netted};
+ghost use Rattle.bet_sizing.specs.Counting.{Collected, Counted, Nettable, Netted};
 ghost use Rattle.bet_sizing.specs.Counts.{on_side};
 ghost use Rattle.bet_sizing.specs.Refusals.{ConcurrentSides};
 
 use crate::{refusals, sorting};
 use refusal::Refusal;
 
-// Whether a side is the one that is asked for.
-fn on_side(long: bool, side: f64) -> bool
-    ensures { result ≡ on_side long side }
+#[derive(Clone, Copy, Debug, PartialEq, Eq)]
+pub enum Side {
+    Long,
+    Short,
+}
+
+// Whether a number stands for the side.
+fn on_side(side: Side, number: f64) -> bool
+    ensures { result ≡ on_side side number }
 {
-    let up = side > 0.0;
-    if long { up } else { !up }
+    let up = number > 0.0;
+    match side {
+        Side::Long => up,
+        Side::Short => !up,
+    }
 }
 
 // Whether a span is of the side that is asked for and ends after it starts.
-fn ever_live(long: bool, start: i64, end: i64, side: f64) -> bool
-    ensures { result ≡ (lt_z start end && on_side long side) }
+fn ever_live(side: Side, start: i64, end: i64, number: f64) -> bool
+    ensures { result ≡ (lt_z start end && on_side side number) }
 {
-    start < end && on_side(long, side)
-}
-
-// Writes the keys of the starts and of the ends of a side's spans that are ever live, and answers
-// how many.
-fn collect(
-    long: bool,
-    starts: &[i64],
-    ends: &[i64],
-    sides: &[f64],
-    s: &mut [u64],
-    e: &mut [u64],
-) -> usize
-    requires { Collectable starts.now ends.now sides.now s.old e.old }
-    ensures { Collected long starts.now ends.now sides.now s.new e.new result }
-{
-    let mut m = 0;
-    for i in 0..starts.len() {
-        s[m] = number::key(starts[i]);
-        e[m] = number::key(ends[i]);
-        m += usize::from(ever_live(long, starts[i], ends[i], sides[i]));
-    }
-    m
+    start < end && on_side(side, number)
 }
 
 // Writes for each instant the number of starts up to then less the number of ends up to then.
@@ -58,35 +45,47 @@ fn net_counts(starts: &[i64], s: &[u64], e: &[u64], out: &mut [f64])
     }
 }
 
-// Writes for each span the number of a side live at its start, with s and e for room.
-fn count_side_in(
-    long: bool,
-    starts: &[i64],
-    ends: &[i64],
-    sides: &[f64],
-    s: &mut [u64],
-    e: &mut [u64],
-    out: &mut [f64],
-)
-    requires { AcceptedIn starts.now ends.now sides.now s.old e.old out.old }
-    ensures { Counted long starts.now ends.now sides.now out.old out.new }
-{
-    let m = collect(long, starts, ends, sides, s, e);
-    let s = &mut s[..m];
-    let e = &mut e[..m];
-    s.sort_unstable();
-    e.sort_unstable();
-    net_counts(starts, s, e, out);
+// As many ends and sides as starts, and few enough.
+#[derive(Clone, Copy)]
+struct Spans<'a> {
+    starts: &'a [i64],
+    ends: &'a [i64],
+    sides: &'a [f64],
+    ghost ends_as_many: { length starts.now ≡ length ends.now },
+    ghost sides_as_many: { length starts.now ≡ length sides.now },
+    ghost few: { length starts.now ≤ 16384 },
 }
 
-// The same, with rooms of its own, apart for shorter proofs.
-fn count_side(long: bool, starts: &[i64], ends: &[i64], sides: &[f64], out: &mut [f64])
-    requires { Accepted starts.now ends.now sides.now out.old }
-    ensures { Counted long starts.now ends.now sides.now out.old out.new }
-{
-    let mut s = [0u64; 16384];
-    let mut e = [0u64; 16384];
-    count_side_in(long, starts, ends, sides, &mut s, &mut e, out);
+impl Spans<'_> {
+    // Writes the keys of the starts and of the ends of a side's spans that are ever live, and answers
+    // how many.
+    fn collect(&self, side: Side, s: &mut [u64], e: &mut [u64]) -> usize
+        requires { (length self.now.starts.now ≤ length s.old) × (length self.now.starts.now ≤ length e.old) }
+        ensures { Collected side self.now.starts.now self.now.ends.now self.now.sides.now s.new e.new result }
+    {
+        let mut m = 0;
+        for i in 0..self.starts.len() {
+            s[m] = number::key(self.starts[i]);
+            e[m] = number::key(self.ends[i]);
+            m += usize::from(ever_live(side, self.starts[i], self.ends[i], self.sides[i]));
+        }
+        m
+    }
+
+    // Writes for each span the number of a side live at its start.
+    fn count(&self, side: Side, out: &mut [f64])
+        requires { length self.now.starts.now ≤ length out.old }
+        ensures { Counted side self.now.starts.now self.now.ends.now self.now.sides.now out.old out.new }
+    {
+        let mut s = [0u64; 16384];
+        let mut e = [0u64; 16384];
+        let m = self.collect(side, &mut s, &mut e);
+        let s = &mut s[..m];
+        let e = &mut e[..m];
+        s.sort_unstable();
+        e.sort_unstable();
+        net_counts(self.starts, s, e, out);
+    }
 }
 
 // Writes for each span how many are live at its start, the long and the short.
@@ -101,7 +100,12 @@ pub fn get_concurrent_sides(
 {
     let room = long.len().min(short.len());
     refusals::check_spans(starts.len(), ends.len(), sides.len(), room)?;
-    count_side(true, starts, ends, sides, long);
-    count_side(false, starts, ends, sides, short);
+    let spans = Spans {
+        starts,
+        ends,
+        sides,
+    };
+    spans.count(Side::Long, long);
+    spans.count(Side::Short, short);
     Ok(starts.len())
 }

@@ -40,14 +40,6 @@ fn sizes_of(long: &[f64], short: &[f64], size: &mut [f64])
     }
 }
 
-// Room for the counts of as many spans as are taken. Apart, so that the caller's proof has a length
-// and not 16,384 zeros.
-fn room() -> [f64; 16384]
-    ensures { length result ≡ 16384 }
-{
-    [0.0f64; 16384]
-}
-
 // Writes the budget size of each span. The counts have room for as many spans as are taken, so they
 // are refused as the sizes are, but for the room of these.
 pub fn bet_size_budget(
@@ -58,8 +50,8 @@ pub fn bet_size_budget(
 ) -> Result<usize, Refusal>
     ensures { BetSizeBudget starts.now ends.now sides.now size.old size.new result }
 {
-    let mut long = room();
-    let mut short = room();
+    let mut long = [0.0f64; 16384];
+    let mut short = [0.0f64; 16384];
     let n = bet_sizing::get_concurrent_sides(starts, ends, sides, &mut long, &mut short)?;
     if size.len() < n {
         return Err(Refusal::TooLittleRoom);

@@ -5,6 +5,7 @@ use Prim.Native.Nat.{ℕ, ◌≤◌}
 use native.Mathlib.Omega.{arith}
 use lib.ListN.{length}
 use lib.Ieee.{Float}
+use Rattle.std.proofs.Common.{Ok}
 use borrow.Author.Tests.{le-ltb}
 use Rattle.fit_refusals.proofs.Known.{grid_known}
 use Rattle.fit_refusals.specs.Refusals.{grid_refusal}
@@ -37,5 +38,5 @@ unfolding is_value
 never_refused l n r e hl hn hr he = transport (ap is_value (sym (unrefused l n hl hn) ∙ sym hr ∙ he)) tt
 
 -- ---- what a search rests on, where it is not refused
-pub served : (m : M2N) (epsilon : Float) (weights : List Float) → grid_refusal m epsilon 1 weights ≡ 0 → Served m epsilon weights
+pub served : (m : M2N) (epsilon : Float) (weights : List Float) → grid_refusal m epsilon 1 weights ≡ Ok tt → Served m epsilon weights
 served m epsilon weights e = let (a, b, c) = grid_known m epsilon 1 weights e in (a, b, omega (arith, c))

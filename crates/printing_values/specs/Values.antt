@@ -1,8 +1,9 @@
 -- The values of a reply, as docs/REQUESTS.md lists them: texts that are put one after another, each value after a blank. Definitions only.
 use Rattle.std.specs.Prelude.{ℕ, List, [], ◌∷◌, ◌++◌, Float, Option, Some, None, take}
-use Rattle.grid.specs.declared.FitResultRow.{FitResultRow}
+use Rattle.grid_rows.specs.declared.FitResultRow.{FitResultRow}
 use Rattle.moments.specs.declared.Five.{Five}
 use Rattle.moments.specs.declared.Params.{Params}
+use Rattle.refusal.specs.Numbers.{number_of}
 use Rattle.text.specs.Bytes.{bytes}
 use Rattle.replies.specs.declared.forms.Report.{Report}
 use Rattle.replies.specs.declared.forms.Reply as reply
@@ -18,7 +19,7 @@ parameters p = p.mu_1 ∷ p.mu_2 ∷ p.sigma_1 ∷ p.sigma_2 ∷ p.p_1 ∷ []
 
 -- how a walk ended, and the state after it
 abbrev pub walked : Report → List (List ℕ)
-walked w = natural w.count ++ (natural w.reason ++ fractions (parameters w.parameters ++ (w.error ∷ moments w.new_moments)))
+walked w = natural w.count ++ (natural w.reason ++ fractions (parameters w.state.parameters ++ (w.state.error ∷ moments w.state.new_moments)))
 
 -- the row that a search found, if it found one
 abbrev pub found : Option FitResultRow → List (List ℕ)
@@ -27,12 +28,11 @@ found None = bytes " none" ∷ []
 
 -- and the state after it
 abbrev pub searched : Search → List (List ℕ)
-searched f = found f.row ++ (bytes " state" ∷ fractions (parameters f.parameters ++ (f.error ∷ f.epsilon ∷ moments f.new_moments)))
+searched f = found f.row ++ (bytes " state" ∷ fractions (parameters f.state.parameters ++ (f.state.error ∷ f.epsilon ∷ moments f.state.new_moments)))
 
 -- the values of a reply, for the request s and the list xs that stands beside the reply
 abbrev pub values : reply.Reply → List ℕ → List Float → List (List ℕ)
-values reply.TheVariants.Bad s xs = []
-values (reply.TheVariants.Refused n) s xs = natural n
+values (reply.TheVariants.Refused refusal) s xs = natural (number_of refusal)
 values (reply.TheVariants.Fraction x) s xs = fractions (x ∷ [])
 values (reply.TheVariants.Natural n) s xs = natural n
 values (reply.TheVariants.Instant i) s xs = instant i

@@ -4,6 +4,7 @@ ghost use Rattle.printing_values.specs.Values.{found, searched, walked};
 
 use crate::numbers;
 use grid::FitResultRow;
+use protocol_lists::State;
 use replies::{Report, Search};
 
 pub(crate) fn put_walk(out: &mut [u8], at: usize, w: Report) -> usize
@@ -11,10 +12,13 @@ pub(crate) fn put_walk(out: &mut [u8], at: usize, w: Report) -> usize
 {
     let a = numbers::put_natural(out, at, w.count);
     let b = numbers::put_natural(out, a, w.reason);
-    let p = w.parameters;
-    let m = w.new_moments;
+    let State {
+        parameters: p,
+        error,
+        new_moments: m,
+    } = w.state;
     let v = [
-        p.mu_1, p.mu_2, p.sigma_1, p.sigma_2, p.p_1, w.error, m.m_1, m.m_2, m.m_3, m.m_4, m.m_5,
+        p.mu_1, p.mu_2, p.sigma_1, p.sigma_2, p.p_1, error, m.m_1, m.m_2, m.m_3, m.m_4, m.m_5,
     ];
     numbers::put_fractions(out, b, &v)
 }
@@ -24,11 +28,14 @@ pub(crate) fn put_search(out: &mut [u8], at: usize, f: Search) -> usize
 {
     let a = put_found(out, at, f.row);
     let b = text_write::put(out, a, b" state");
-    let p = f.parameters;
-    let m = f.new_moments;
+    let State {
+        parameters: p,
+        error,
+        new_moments: m,
+    } = f.state;
     let v = [
-        p.mu_1, p.mu_2, p.sigma_1, p.sigma_2, p.p_1, f.error, f.epsilon, m.m_1, m.m_2, m.m_3,
-        m.m_4, m.m_5,
+        p.mu_1, p.mu_2, p.sigma_1, p.sigma_2, p.p_1, error, f.epsilon, m.m_1, m.m_2, m.m_3, m.m_4,
+        m.m_5,
     ];
     numbers::put_fractions(out, b, &v)
 }

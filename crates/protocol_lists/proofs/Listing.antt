@@ -6,8 +6,9 @@ use mathlib.Core.List.{List, [], ◌∷◌}
 use native.Mathlib.Omega.{arith}
 use borrow.Author.Tests.{leb-true, leb-false}
 use lib.Dec.{leb}
-use lib.ListN.{drop, drop_of_length-le, length, set, take}
+use lib.ListN.{drop, length, set, take}
 use lib.Seq.{length-sets, length-take-le, sets, take_all, take-nil}
+use Rattle.std.proofs.lemmas.List.{drop_min, take_min}
 use Rattle.text.specs.Decode.{Got, got, bad, ◌▷◌}
 use Rattle.protocol.specs.Words.{next_natural}
 use Rattle.protocol_lists.specs.Lists.{a_list, entries_of, in_front, list_in, list_of, many, or_none, values_of}
@@ -30,29 +31,11 @@ module _ {A : Type 0} where
 
 -- ---- a part that begins or ends at n, or at the end of the list where n is past it, as `n.min(m.len())` answers k
 module _ {A : Type 0} (k n : ℕ) (m : List A) (e : k ≡ min n (length m)) where
-  take_by : (room : Bool) → leb n (length m) ≡ room → take k m ≡ take n m
-  take_by true h =
-      let l = leb-true n (length m) h in
-      let same : k ≡ n = omega arith in
-      rw same
-  take_by false h =
-      let l = leb-false n (length m) h in
-      take_all k m (omega arith) ∙ sym (take_all n m (omega arith))
-
-  drop_by : (room : Bool) → leb n (length m) ≡ room → drop k m ≡ drop n m
-  drop_by true h =
-      let l = leb-true n (length m) h in
-      let same : k ≡ n = omega arith in
-      rw same
-  drop_by false h =
-      let l = leb-false n (length m) h in
-      drop_of_length-le m {i = k} (omega arith) ∙ sym (drop_of_length-le m {i = n} (omega arith))
-
   pub take_least : take k m ≡ take n m
-  take_least = take_by (leb n (length m)) refl
+  take_least = rw (e, take_min n m)
 
   pub drop_least : drop k m ≡ drop n m
-  drop_least = drop_by (leb n (length m)) refl
+  drop_least = rw (e, drop_min n m)
 
 -- ---- what is the same for every list of more than n entries can be asked of n + 1 of them
 module _ {A B : Type 0} (n : ℕ) (f : List A → B) (x : B) (same : (m : List A) → n < length m → f m ≡ x) where

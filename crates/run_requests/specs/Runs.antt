@@ -1,15 +1,15 @@
 -- The request of several runs: its words, the reply to a line, and what the lent list holds after it. Definitions only.
-use Rattle.std.specs.Prelude.{ℕ, ◌*◌, ◌-◌, ◌/◌, ◌^◌, min, List, ◌++◌, Float, drop, length, replicate, take}
+use Rattle.std.specs.Prelude.{ℕ, ◌*◌, ◌-◌, ◌/◌, ◌^◌, min, List, ◌++◌, Float, drop, length, replicate, take, Result, Ok, Err}
 use Rattle.float.specs.Constants.{nought}
 use Rattle.text.specs.Decode.{Got, got, bad}
 use Rattle.protocol.specs.Words.{next_fraction, next_natural}
 use Rattle.protocol_lists.specs.Lists.{fraction_list, in_front, next_state}
 use Rattle.walk.specs.declared.M2N.{M2N}
 use Rattle.walk_requests.specs.Walks.{state_from}
-use Rattle.grid.specs.declared.FitResultRow.{FitResultRow}
+use Rattle.refusal.specs.Numbers.{number_of}
+use Rattle.refusal.specs.declared.Refusal.{Refusal}
+use Rattle.grid_rows.specs.declared.FitResultRow.{FitResultRow}
 use Rattle.fit_runs.specs.Runs.{flat_of, mp_fit, run_rows}
-use Rattle.fit_runs.specs.declared.Filled.{Filled}
-use Rattle.fit_runs.specs.declared.Filled.TheVariants.{Unfilled, Rows}
 use Rattle.replies.specs.Requests.{◌>>=◌, after, named, only_or, reply}
 use Rattle.replies.specs.declared.forms.Reply.{Reply}
 use Rattle.replies.specs.declared.forms.Reply.TheVariants.{Bad, Listed, Refused}
@@ -66,9 +66,9 @@ settings_are s given.TheVariants.No = bad
 abbrev pub room : ℕ → ℕ → ℕ
 room places n = min places (n / 6)
 
-abbrev pub filled_reply : Filled → Reply
-filled_reply (Unfilled number) = Refused number
-filled_reply (Rows n) = Listed n (6 * n)
+abbrev pub filled_reply : Result ℕ Refusal → Reply
+filled_reply (Ok n) = Listed n (6 * n)
+filled_reply (Err e) = Refused (number_of e)
 
 abbrev pub runs_reply : ℕ → Asked → Reply
 runs_reply n a = filled_reply (mp_fit a.state a.weights (room a.places n))

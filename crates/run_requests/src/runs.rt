@@ -1,13 +1,11 @@
 // The request of several runs. A list of moments longer than 16 is read, and refused by the library. A
 // weight has 17 bytes of a line of at most 65,535, so a line has fewer than 4,096 of them.
-ghost use Rattle.std.specs.Prelude.{◌+◌, ◌*◌, ◌≤◌, ◌≡◌, drop, length, take};
-ghost use Rattle.std.proofs.lemmas.List.Edits.{sets};
-ghost use Rattle.fit_runs.specs.Runs.{mp_fit, run_rows, six};
+ghost use Rattle.std.specs.Prelude.{◌*◌, ◌≤◌, ◌≡◌, drop, length, take};
+ghost use Rattle.fit_runs.specs.Runs.{mp_fit, run_rows};
 ghost use Rattle.replies.specs.Requests.{only, only_or};
 ghost use Rattle.run_requests.specs.Runs.{asked, asked_from, asked_of, rows_in, runs, runs_in, runs_reply, settings, settings_are, weights_from, with_rows, words};
 
 use ef3m_runs::Runs;
-use fit_runs::Filled;
 use grid::FitResultRow;
 use protocol::Fraction;
 use protocol_lists::{List, State};
@@ -148,14 +146,12 @@ fn fill(m: M2N, weights: &[f64], places: usize, xs: &mut [f64]) -> Reply
 {
     let room = protocol::least(places, xs.len() / 6);
     let r = rows_of(m, weights, room);
-    let rows = r.rows;
-    let o = r.outcome;
-    match o {
-        Filled::Unfilled(number) => Reply::Refused(number),
-        Filled::Rows(n) => {
-            put_rows(xs, rows, n);
+    match r.outcome {
+        Ok(n) => {
+            put_rows(xs, &r.rows[..n]);
             Reply::Listed(n, 6 * n)
         }
+        Err(refusal) => Reply::Refused(u64::from(refusal)),
     }
 }
 
@@ -177,40 +173,21 @@ fn rows_of(m: M2N, weights: &[f64], room: usize) -> Runs
     ensures { (result.outcome ≡ mp_fit m weights.now room)
         × (take (length (run_rows m weights.now room)) result.rows ≡ run_rows m weights.now room) }
 {
-    let n_runs = m.n_runs;
-    if room < n_runs {
-        let f = fit_runs::mp_fit_flat(m, weights, room);
-        let o = f.outcome;
+    if room < m.n_runs {
         return Runs {
             rows: [no_row(); 64],
-            outcome: o,
+            outcome: fit_runs::mp_fit_flat(m, weights, room).outcome,
         };
     }
     ef3m_runs::mp_fit_through(m, weights, [no_row(); 64])
 }
 
-// Puts the first n rows in front of xs, six numbers each. Its places past them stay.
-fn put_rows(xs: &mut [f64], rows: [FitResultRow; 64], n: usize)
-    requires { (n ≤ 64) × (6 * n ≤ length xs.old) }
-    ensures { xs.new ≡ with_rows (take n rows) xs.old }
+// Puts the rows in front of xs, six numbers each. Its places past them stay.
+fn put_rows(xs: &mut [f64], rows: &[FitResultRow])
+    requires { 6 * length rows.now ≤ length xs.old }
+    ensures { xs.new ≡ with_rows rows.now xs.old }
 {
-    let mut i = 0;
-    while i < n {
-        put_row(xs, i, rows[i]);
-        i += 1;
+    for i in 0..rows.len() {
+        rows[i].put_flat(xs, i);
     }
-}
-
-// Row i, its six numbers.
-fn put_row(xs: &mut [f64], i: usize, r: FitResultRow)
-    requires { 6 * i + 6 ≤ length xs.old }
-    ensures { xs.new ≡ sets xs.old (6 * i) (six r) }
-{
-    let at = 6 * i;
-    xs[at] = r.mu_1;
-    xs[at + 1] = r.mu_2;
-    xs[at + 2] = r.sigma_1;
-    xs[at + 3] = r.sigma_2;
-    xs[at + 4] = r.p_1;
-    xs[at + 5] = r.error;
 }

@@ -1,14 +1,13 @@
 -- The request of one search, by its words and what they come to, and the reply to a line. Definitions only.
-use Rattle.std.specs.Prelude.{ℕ, ◌-◌, ◌^◌, List, Float, Option, Some, None, drop, length, replicate, take}
+use Rattle.std.specs.Prelude.{ℕ, ◌-◌, ◌^◌, List, Float, Option, Some, None, drop, length, replicate, take, Bool, true, false, Result, Ok, Err}
 use Rattle.float.specs.Constants.{nought}
+use Rattle.refusal.specs.Numbers.{number_of}
+use Rattle.refusal.specs.declared.Refusal.{Refusal}
+use Rattle.grid_rows.specs.FitResultRow.{params_of, row_of}
+use Rattle.grid_rows.specs.declared.FitResultRow.{FitResultRow}
+use Rattle.grid.specs.Rows.{zeros}
 use Rattle.grid.specs.Search.{single_fit}
-use Rattle.grid.specs.declared.Best.{Best}
-use Rattle.grid.specs.declared.Best.TheVariants.{Nothing, Row}
-use Rattle.grid.specs.declared.Epsilon.{Epsilon}
-use Rattle.grid.specs.declared.Epsilon.TheVariants.{Override, Own}
-use Rattle.grid.specs.declared.FitResultRow.{FitResultRow}
 use Rattle.grid.specs.declared.Fitted.{Fitted}
-use Rattle.grid.specs.declared.Outcome as outcome
 use Rattle.text.specs.Bytes.{bytes}
 use Rattle.text.specs.Decode.{Got, got, bad, word}
 use Rattle.protocol.specs.Words.{next_fraction, next_natural}
@@ -22,27 +21,27 @@ use Rattle.walk_requests.specs.Walks.{state_from}
 use Rattle.search_requests.specs.declared.searches.Given as given
 
 -- the epsilon for this search: `-` for the state's own
-abbrev pub own : List ℕ → Got Epsilon
+abbrev pub own : List ℕ → Got (Option Float)
 own = do
   minus ← word (bytes " -")
-  reply Own
+  reply None
 
 -- or a fraction in place of it
-abbrev pub overriding : List ℕ → Got Epsilon
+abbrev pub overriding : List ℕ → Got (Option Float)
 overriding = do
   epsilon ← next_fraction
-  reply (Override epsilon)
+  reply (Some epsilon)
 
 -- the first of two forms that the bytes are of
-abbrev pub either : Got Epsilon → Got Epsilon → Got Epsilon
+abbrev pub either : Got (Option Float) → Got (Option Float) → Got (Option Float)
 either (got e s) other = got e s
 either bad other = other
 
-abbrev pub next_given : List ℕ → Got Epsilon
+abbrev pub next_given : List ℕ → Got (Option Float)
 next_given s = either (own s) (overriding s)
 
 -- what an answer says
-abbrev pub given_is : List ℕ → given.Given → Got Epsilon
+abbrev pub given_is : List ℕ → given.Given → Got (Option Float)
 given_is s (given.TheVariants.Is e k) = got e (drop k s)
 given_is s given.TheVariants.No = bad
 
@@ -62,15 +61,15 @@ ended_search m best = record {
 }
 
 -- how a search ended, with the state after it, as a reply
-abbrev pub outcome_reply : outcome.Outcome → M2N → Reply
-outcome_reply (outcome.TheVariants.Refused n) m = Refused n
-outcome_reply (outcome.TheVariants.Ended best) m = Searched (ended_search m best)
+abbrev pub outcome_reply : Result (Option FitResultRow) Refusal → M2N → Reply
+outcome_reply (Ok best) m = Searched (ended_search m best)
+outcome_reply (Err e) m = Refused (number_of e)
 
 abbrev pub searched_reply : Fitted → Reply
 searched_reply f = outcome_reply f.outcome f.state
 
 -- the words after the state. Of the weights 4,096 are kept: a line has fewer, for a weight has 17 of its 65,535 bytes
-abbrev pub weights_from : M2N → Epsilon → List ℕ → Got Reply
+abbrev pub weights_from : M2N → Option Float → List ℕ → Got Reply
 weights_from m e = do
   weights ← fraction_list
   reply (searched_reply (single_fit m e (take 4096 weights)))

@@ -4,7 +4,7 @@ ghost use Rattle.std.specs.Prelude.{◌≡◌, drop};
 ghost use Rattle.search_requests.specs.Searches.{ended_search, given_is, next_given, overriding, search_from, searched_reply, searches, single, weights_from};
 ghost use Rattle.replies.specs.Requests.{only};
 
-use grid::{Best, Epsilon, Fitted, Outcome};
+use grid::{FitResultRow, Fitted};
 use protocol::Fraction;
 use protocol_lists::{List, State};
 use replies::{Reply, Search};
@@ -74,7 +74,7 @@ fn search_from(s: &[u8], at: usize, variant: u64, m: [f64; 16], n: usize) -> Rep
 // The epsilon that is given for this search, and the place after it.
 #[derive(Clone, Copy)]
 enum Given {
-    Is(Epsilon, usize),
+    Is(Option<f64>, usize),
     No,
 }
 
@@ -83,7 +83,7 @@ fn read_given(s: &[u8], at: usize) -> Given
 {
     let own = text_read::read_word(s, at, b" -");
     match own {
-        Next::At(a) => Given::Is(Epsilon::Own, a),
+        Next::At(a) => Given::Is(None, a),
         Next::No => read_override(s, at),
     }
 }
@@ -94,7 +94,7 @@ fn read_override(s: &[u8], at: usize) -> Given
     let Fraction::Is(epsilon, a) = protocol::read_next_fraction(s, at) else {
         return Given::No;
     };
-    Given::Is(Epsilon::Override(epsilon), a)
+    Given::Is(Some(epsilon), a)
 }
 
 // The places that weights are read into. A function, so that a proof takes what it answers as any list
@@ -104,7 +104,7 @@ fn fractions_room() -> [f64; 4096] {
 }
 
 // The words after the state.
-fn weights_from(s: &[u8], at: usize, m: M2N, given: Epsilon) -> Reply
+fn weights_from(s: &[u8], at: usize, m: M2N, given: Option<f64>) -> Reply
     ensures { result ≡ only (weights_from m given (drop at s.now)) }
 {
     let mut w = fractions_room();
@@ -121,23 +121,17 @@ fn weights_from(s: &[u8], at: usize, m: M2N, given: Epsilon) -> Reply
 fn reply(f: Fitted) -> Reply
     ensures { result ≡ searched_reply f }
 {
-    let m = f.state;
-    let o = f.outcome;
-    match o {
-        Outcome::Refused(number) => Reply::Refused(number),
-        Outcome::Ended(best) => Reply::Searched(ended(m, best)),
+    match f.outcome {
+        Ok(best) => Reply::Searched(ended(f.state, best)),
+        Err(refusal) => Reply::Refused(u64::from(refusal)),
     }
 }
 
-fn ended(m: M2N, best: Best) -> Search
+fn ended(m: M2N, best: Option<FitResultRow>) -> Search
     ensures { result ≡ ended_search m best }
 {
-    let row = match best {
-        Best::Row(r) => Some(r),
-        Best::Nothing => None,
-    };
     Search {
-        row,
+        row: best,
         parameters: m.parameters,
         error: m.error,
         epsilon: m.epsilon,

@@ -1,8 +1,8 @@
 -- Rows put one after another: a count read back from its float is the count, a row is short, and each row put is the next of the text. Assumes nothing.
 use Prim.Native.Nat.{ℕ, ◌+◌, ◌*◌, ◌≤◌, ◌<◌}
-use mathlib.Core.Path.{◌≡◌}
+use mathlib.Core.Path.{◌≡◌, sym, ◌∙◌, ap}
 use mathlib.Core.Bool.{Bool, true, false, ◌&&◌}
-use mathlib.Core.List.{List, [], ◌∷◌, append-nil}
+use mathlib.Core.List.{List, [], ◌∷◌, append-nil, ◌++◌, append_assoc}
 use native.Mathlib.Omega.{arith}
 use borrow.Author.Tests.{le-leb}
 use lib.IntN.{ℤ, pos}
@@ -12,6 +12,9 @@ use lib.ListN.{length, take, get_or}
 use Rattle.std.specs.List.{flat_map}
 use Rattle.std.proofs.lemmas.Grind.{flat_map-append}
 use Rattle.std.proofs.lemmas.List.{take_more}
+use lib.Seq.{take-suc}
+use Rattle.bet_sizing.specs.declared.counts.Side.{Side}
+use Rattle.bet_sizing.specs.declared.counts.Side.TheVariants.{Long, Short}
 use Rattle.bet_sizing.specs.Counts.{concurrent, live, on_side, whole}
 use Rattle.bet_sizing.proofs.Ranks.{indicator_le}
 use Rattle.budget.specs.Budget.{budget_size}
@@ -23,12 +26,12 @@ use Rattle.sheet.specs.Meaning.{Countable}
 use Rattle.sheet.specs.Rows.{row_at}
 
 -- ---- a count, read back from its float
-concurrent_few : (long : Bool) (t : ℤ) (ss es : List ℤ) (ds : List Float) → concurrent long t ss es ds ≤ length ss
+concurrent_few : (side : Side) (t : ℤ) (ss es : List ℤ) (ds : List Float) → concurrent side t ss es ds ≤ length ss
 unfolding concurrent
-concurrent_few long t [] es ds = omega arith
-concurrent_few long t (s ∷ ss) [] ds = omega arith
-concurrent_few long t (s ∷ ss) (e ∷ es) [] = omega arith
-concurrent_few long t (s ∷ ss) (e ∷ es) (d ∷ ds) = omega (arith, indicator_le (live t s e && on_side long d), concurrent_few long t ss es ds)
+concurrent_few side t [] es ds = omega arith
+concurrent_few side t (s ∷ ss) [] ds = omega arith
+concurrent_few side t (s ∷ ss) (e ∷ es) [] = omega arith
+concurrent_few side t (s ∷ ss) (e ∷ es) (d ∷ ds) = omega (arith, indicator_le (live t s e && on_side side d), concurrent_few side t ss es ds)
 
 whole_back : (n : ℕ) → n ≤ 1024 → to_unsigned 64 (whole n) ≡ n
 unfolding whole in_float
@@ -41,8 +44,8 @@ Rowed n ss es ds out at i = Front n out at (flat_map (row_at ss es ds) (take i s
 
 -- the counts and sizes at each start beside them
 pub record Beside (ss es : List ℤ) (ds long short size : List Float) : Type 0 where
-  pub longs : (i : ℕ) → i < length ss → get_or long i nan ≡ whole (concurrent true (get_or ss i (pos 0)) ss es ds)
-  pub shorts : (i : ℕ) → i < length ss → get_or short i nan ≡ whole (concurrent false (get_or ss i (pos 0)) ss es ds)
+  pub longs : (i : ℕ) → i < length ss → get_or long i nan ≡ whole (concurrent Long (get_or ss i (pos 0)) ss es ds)
+  pub shorts : (i : ℕ) → i < length ss → get_or short i nan ≡ whole (concurrent Short (get_or ss i (pos 0)) ss es ds)
   pub sizes : (i : ℕ) → i < length ss → get_or size i nan ≡ budget_size ss es ds (get_or ss i (pos 0))
 
 module _ (ss es : List ℤ) (ds long short size : List Float) (o : List ℕ) (h : Countable ss es ds o) (b : Beside ss es ds long short size) where
@@ -58,8 +61,8 @@ module _ (ss es : List ℤ) (ds long short size : List Float) (o : List ℕ) (h 
   row_one out out' at r i below w p =
       let t = get_or ss i (pos 0) in
       let few = h.few in
-      let back : (long : Bool) → to_unsigned 64 (whole (concurrent long t ss es ds)) ≡ concurrent long t ss es ds = λ long. whole_back (concurrent long t ss es ds) (omega (arith, few, concurrent_few long t ss es ds)) in
-      let q : Placed out out' at r (row_at ss es ds t) = rw (b.longs i below, b.shorts i below, b.sizes i below, back true, back false) at p in
+      let back : (side : Side) → to_unsigned 64 (whole (concurrent side t ss es ds)) ≡ concurrent side t ss es ds = λ side. whole_back (concurrent side t ss es ds) (omega (arith, few, concurrent_few side t ss es ds)) in
+      let q : Placed out out' at r (row_at ss es ds t) = rw (b.longs i below, b.shorts i below, b.sizes i below, back Long, back Short) at p in
       let k : 128 * (i + 1) ≡ 128 * i + 128 = omega arith in
       rw (take_more ss i (pos 0) below, flat_map-append, append-nil, k)
       (front_then 128 (omega (arith, h.room)) (row_short _) w q)

@@ -1,8 +1,9 @@
 -- The rows of spans: for each, in order, the counts live at its start and the budget size. Definitions only.
-use Rattle.std.specs.Prelude.{ℕ, true, false, List, ℤ, Float}
+use Rattle.std.specs.Prelude.{ℕ, true, false, List, ℤ, Float, [], ◌∷◌, ◌++◌}
 use Rattle.std.specs.List.{flat_map}
 use Rattle.std.specs.Float.{binary64}
 use Rattle.std.specs.Float.Ieee.{to_bits}
+use Rattle.bet_sizing.specs.declared.counts.Side.TheVariants.{Long, Short}
 use Rattle.bet_sizing.specs.Counts.{concurrent}
 use Rattle.budget.specs.Budget.{budget_size}
 use Rattle.sheet_rows.specs.Rows.{row_line}
@@ -13,8 +14,8 @@ row_at ss es ds t =
     row_line
     (record {
       at = t;
-      long = concurrent true t ss es ds;
-      short = concurrent false t ss es ds;
+      long = concurrent Long t ss es ds;
+      short = concurrent Short t ss es ds;
       size = to_bits binary64 (budget_size ss es ds t);
     })
 

@@ -7,7 +7,7 @@ use native.Mathlib.Omega.{arith}
 use native.Mathlib.Numerals.{add-one}
 use lib.IntN.{ℤ}
 use lib.Ieee.{Float}
-use lib.ListN.{length, take, drop, set, length-append, length-set}
+use lib.ListN.{length, take, set, length-append, length-set}
 use lib.Seq.{take-suc-set, take_all}
 use Rattle.std.specs.Prelude.{Ok, Err}
 use Rattle.text.specs.Decode.{got, bad}
@@ -35,13 +35,13 @@ module _ {A : Type 0} (f : Span → A) where
   held_all d n old new h e = sym (take_all n new (omega (arith, e.same))) ∙ e.front
 
 -- ---- the three
-pub record Filling (s : List ℕ) (i n : ℕ) (a a' b b' : List ℤ) (c c' : List Float) : Type 0 where
-  pub going : Going s i n
+pub record Filling (s t : List ℕ) (n : ℕ) (a a' b b' : List ℤ) (c c' : List Float) : Type 0 where
+  pub going : Going s t n
   pub starts : Held from_of going.done n a a'
   pub ends : Held to_of going.done n b b'
   pub sides : Held side_of going.done n c c'
 
-pub begin : (s : List ℕ) (a b : List ℤ) (c : List Float) → Filling s 0 0 a a b b c c
+pub begin : (s : List ℕ) (a b : List ℤ) (c : List Float) → Filling s s 0 a a b b c c
 unfolding start
 begin s a b c = record { going = start s; starts = held_none from_of a; ends = held_none to_of b; sides = held_none side_of c }
 
@@ -54,34 +54,34 @@ empty : (m : List Span) → length m ≡ 0 → m ≡ []
 empty [] e = refl
 empty (a ∷ m) e = absurd (omega arith)
 
-module _ (s : List ℕ) (i n : ℕ) (a a' b b' : List ℤ) (c c' : List Float) (p : Fillable s a b c) (f : Filling s i n a a' b b' c c') where
-  lines_left : (m : List Span) × (lines (length s - n) (n + 1) (drop i s) ≡ Ok m) × (f.going.done ++ m ≡ p.read)
+module _ (s t : List ℕ) (n : ℕ) (a a' b b' : List ℤ) (c c' : List Float) (p : Fillable s a b c) (f : Filling s t n a a' b b' c c') where
+  lines_left : (m : List Span) × (lines (length s - n) (n + 1) t ≡ Ok m) × (f.going.done ++ m ≡ p.read)
   lines_left = prepended f.going.done _ p.read (sym f.going.rest ∙ (accepts p.read s p.is).is)
 
   -- a place with no span in it yet has one to come
-  pub unread : n < length a → i < length s
-  unread h = by (dec_le (length s) i)
+  pub unread : n < length a → 0 < length t
+  unread h = by (dec_le (length t) 0)
     where
-      by : Dec (length s ≤ i) → i < length s
+      by : Dec (length t ≤ 0) → 0 < length t
       by (yes k) =
-          let e = whole s i n f.going k in
+          let e = whole s t n f.going (omega arith) in
           let r = (accepts p.read s p.is).is in
           let q : f.going.done ≡ p.read = cc in
           absurd (omega (arith, ap length q, f.going.size, p.starts))
       by (no k) = omega arith
 
   -- and no line is at fault
-  pub faultless : {A : Type 0} → n < length a → line_form (drop i s) ≡ bad → A
+  pub faultless : {A : Type 0} → n < length a → line_form t ≡ bad → A
   faultless h e =
-      let q = fault s i n f.going (unread h) e in
+      let q = fault s t n f.going (unread h) e in
       let r = (accepts p.read s p.is).is in
       absurd cc
 
-  pub put : n < length a → (v : Span) (k : ℕ) → line_form (drop i s) ≡ got v (drop k s)
-      → Filling s k (n + 1) a (set a' n v.from) b (set b' n v.to) c (set c' n (side_of v))
+  pub put : n < length a → (v : Span) (u : List ℕ) → line_form t ≡ got v u
+      → Filling s u (n + 1) a (set a' n v.from) b (set b' n v.to) c (set c' n (side_of v))
   unfolding more
-  put h v k e = record {
-    going = more s i n f.going v k (unread h) e;
+  put h v u e = record {
+    going = more s t n f.going v u (unread h) e;
     starts = held_one from_of f.going.done n a a' v h f.starts;
     ends = held_one to_of f.going.done n b b' v (omega (arith, p.starts, p.ends)) f.ends;
     sides = held_one side_of f.going.done n c c' v (omega (arith, p.starts, p.sides)) f.sides;

@@ -1,14 +1,13 @@
--- The loops over a sheet's lines: what is known with n lines read, up to the place i. Assumes nothing.
+-- The loops over a sheet's lines: what is known with n lines read and the bytes t left. Assumes nothing.
 use Prim.Native.Nat.{ℕ, zero, suc, ◌+◌, ◌-◌, ◌≤◌, ◌<◌}
-use mathlib.Core.Path.{◌≡◌, refl, ◌∙◌}
+use mathlib.Core.Path.{◌≡◌, refl, sym, ◌∙◌}
 use mathlib.Core.Bool.{Bool, cond, true, false}
 use mathlib.Core.List.{List, [], ◌∷◌, ◌++◌, append_assoc, append-nil}
 use native.Mathlib.Omega.{arith}
 use native.Mathlib.Numerals.{add-one}
-use borrow.Author.Tests.{le-ltb, lt-ltb, ltb-false}
-use lib.Dec.{ltb}
-use lib.ListN.{length, drop, drop_of_length-le, length-append}
-use lib.Seq.{drop-cons}
+use borrow.Author.Tests.{eqb-true, le-ltb, lt-ltb, ltb-false}
+use lib.Dec.{ltb, eqb}
+use lib.ListN.{length, length-append}
 use Rattle.std.specs.Prelude.{Ok, Err}
 use Rattle.text.specs.Decode.{got, bad}
 use Rattle.refusal.specs.declared.Refusal.TheVariants.{TooLarge}
@@ -37,44 +36,61 @@ unfolding lines
 lines_end zero n = refl
 lines_end (suc k) n = refl
 
-lines_more : (k n : ℕ) (s : List ℕ) (i : ℕ) → i < length s → lines (suc k) n (drop i s) ≡ onward n (lines k (suc n)) (line_form (drop i s))
+lines_more : (k n : ℕ) (t : List ℕ) → 0 < length t → lines (suc k) n t ≡ onward n (lines k (suc n)) (line_form t)
 unfolding lines
-lines_more k n s i h = rw (drop-cons s i 0 h)
+lines_more k n [] h = absurd (omega arith)
+lines_more k n (b ∷ t) h = refl
+
+lines_out : (k n : ℕ) (t : List ℕ) → length t ≡ 0 → lines k n t ≡ Ok []
+lines_out k n [] h = lines_end k n
+lines_out k n (b ∷ t) h = absurd (omega arith)
+
+-- ---- whether bytes are left, as `is_empty` answers b
+module _ (n : ℕ) {b : Bool} (is : b ≡ eqb n 0) where
+  pub some_left : b ≡ false → 0 < n
+  some_left e = by n (sym is ∙ e)
+    where
+      by : (n : ℕ) → eqb n 0 ≡ false → 0 < n
+      by zero e = absurd cc
+      by (suc n) e = omega arith
+
+  pub none_left : b ≡ true → n ≡ 0
+  none_left e = eqb-true n 0 (sym is ∙ e)
 
 -- ---- with n lines read
-pub record Going (s : List ℕ) (i n : ℕ) : Type 0 where
+pub record Going (s t : List ℕ) (n : ℕ) : Type 0 where
   pub done : List Span
   pub size : length done ≡ n
-  pub ahead : n ≤ i
-  pub rest : lines (length s) 1 s ≡ prepend done (lines (length s - n) (n + 1) (drop i s))
+  pub ahead : n + length t ≤ length s
+  pub rest : lines (length s) 1 s ≡ prepend done (lines (length s - n) (n + 1) t)
 
-unfoldable pub start : (s : List ℕ) → Going s 0 0
+unfoldable pub start : (s : List ℕ) → Going s s 0
 start s =
     let p : length s - 0 ≡ length s = omega arith in
     record { done = []; size = refl; ahead = omega arith; rest = rw p (prepend_none (lines (length s) 1 s)) }
 
-module _ (s : List ℕ) (i n : ℕ) (g : Going s i n) where
-  pub turn : i < length s → lines (length s) 1 s ≡ prepend g.done (onward (n + 1) (lines (length s - (n + 1)) (suc (n + 1))) (line_form (drop i s)))
+module _ (s t : List ℕ) (n : ℕ) (g : Going s t n) where
+  pub turn : 0 < length t → lines (length s) 1 s ≡ prepend g.done (onward (n + 1) (lines (length s - (n + 1)) (suc (n + 1))) (line_form t))
   turn h =
       let p : length s - n ≡ suc (length s - (n + 1)) = omega (arith, g.ahead) in
-      g.rest ∙ rw (p, lines_more (length s - (n + 1)) (n + 1) s i h)
+      g.rest ∙ rw (p, lines_more (length s - (n + 1)) (n + 1) t h)
 
   -- one more
-  unfoldable pub more : (a : Span) (k : ℕ) → i < length s → line_form (drop i s) ≡ got a (drop k s) → Going s k (n + 1)
-  more a k h e = record {
+  unfoldable pub more : (a : Span) (u : List ℕ) → 0 < length t → line_form t ≡ got a u → Going s u (n + 1)
+  more a u h e = record {
     done = g.done ++ (a ∷ []);
     size = rw length-append (omega (arith, g.size));
-    ahead = omega (arith, further s i k a h e, g.ahead);
-    rest = turn h ∙ rw (e, add-one (n + 1)) (prepend_also g.done a (lines (length s - (n + 1)) (suc (n + 1)) (drop k s)));
+    ahead = omega (arith, further t u a e, g.ahead);
+    rest = turn h ∙ rw (e, add-one (n + 1)) (prepend_also g.done a (lines (length s - (n + 1)) (suc (n + 1)) u));
   }
 
   -- the first that is none
-  pub fault : i < length s → line_form (drop i s) ≡ bad → lines (length s) 1 s ≡ Err (n + 1)
+  pub fault : 0 < length t → line_form t ≡ bad → lines (length s) 1 s ≡ Err (n + 1)
   fault h e = turn h ∙ rw e
 
   -- the end
-  pub whole : length s ≤ i → lines (length s) 1 s ≡ Ok g.done
-  whole h = g.rest ∙ rw (drop_of_length-le s h, lines_end, append-nil)
+  pub whole : length t ≡ 0 → lines (length s) 1 s ≡ Ok g.done
+  whole h = g.rest ∙ rw (lines_out (length s - n) (n + 1) t h, append-nil)
 
 -- ---- what the lines say of the sheet
 module _ (s : List ℕ) where

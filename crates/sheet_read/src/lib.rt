@@ -9,7 +9,6 @@ ghost use Rattle.sheet_read.specs.Spelling.{OneSpelling};
 ghost use Rattle.sheet_read.specs.declared.SheetError.TheVariants.{Refused};
 
 use refusal::Refusal;
-use sheet_forms::Form;
 
 // Why a sheet is turned away: as other calls are, or by a line that is no span form.
 #[derive(Clone, Copy, Debug, PartialEq, Eq)]
@@ -36,13 +35,13 @@ fn check(s: &[u8]) -> Result<usize, SheetError>
     if 65536 < s.len() {
         return Err(Refusal::TooLarge.into());
     }
-    let mut at = 0;
+    let mut rest = s;
     let mut n = 0;
-    while at < s.len() {
-        let Form::Is(_, k) = sheet_forms::read_line(s, at) else {
+    while !rest.is_empty() {
+        let Some((_, after)) = sheet_forms::read_line(rest) else {
             return Err(SheetError::NotASpan { line: n + 1 });
         };
-        at = k;
+        rest = after;
         n += 1;
     }
     if 1024 < n {
@@ -56,15 +55,15 @@ fn take_spans(s: &[u8], starts: &mut [i64], ends: &mut [i64], sides: &mut [f64])
     requires { Fillable s.now starts.old ends.old sides.old }
     ensures { HeldBy (sheet s.now) starts.new ends.new sides.new }
 {
-    let mut at = 0;
+    let mut rest = s;
     for i in 0..starts.len() {
-        let Form::Is(span, k) = sheet_forms::read_line(s, at) else {
+        let Some((span, after)) = sheet_forms::read_line(rest) else {
             return;
         };
         starts[i] = span.from;
         ends[i] = span.to;
         sides[i] = text_bits::float_of(span.side);
-        at = k;
+        rest = after;
     }
 }
 

@@ -15,6 +15,7 @@ use Rattle.std.specs.Prelude.{Result, Ok, Err}
 use Rattle.refusal.specs.Numbers.{unless_refused}
 use Rattle.refusal.specs.declared.Refusal.{Refusal}
 use Rattle.budget.specs.Budget.{BetSizeBudget, budget_sizes}
+use Rattle.bet_sizing.specs.declared.counts.Side.TheVariants.{Long, Short}
 use Rattle.bet_sizing.specs.Counts.{concurrent, concurrent_counts, whole}
 use Rattle.bet_sizing.specs.Refusals.{ConcurrentSides, spans_refusal}
 use Rattle.bet_sizing.proofs.Refusing.{accepted, accepted_in, fits}
@@ -74,14 +75,14 @@ module _ (room from k : ℕ) (xs : List Float) {ss es : List ℤ} {ds : List Flo
       let a = accepted (spans_refusal (length ss) (length es) (length ds) lent) (length ss) n (sym h.answered ∙ e) in
       let few : length ss ≤ k = omega (arith, fits (length ss) (length es) (length ds) lent a.0) in
       let all : sides_refusal (length xs) (asked_of room from ss es ds) ≡ Ok tt = accepted_in (length ss) (length es) (length ds) lent (min room half) a.0 (omega arith) in
-      let longs : List Float = concurrent_counts true ss es ds in
-      let shorts : List Float = concurrent_counts false ss es ds in
+      let longs : List Float = concurrent_counts Long ss es ds in
+      let shorts : List Float = concurrent_counts Short ss es ds in
       let front : long ≡ longs ++ drop (length ss) (take k xs) = rw a.0 at h.longs in
       let other : short ≡ shorts ++ drop (length ss) old = rw a.0 at h.shorts in
-      let copies : copied ≡ shorts = c ∙ ap (take n) other ∙ take_at shorts (drop (length ss) old) n (length-map ss (λ t. whole (concurrent false t ss es ds)) ∙ a.1) in
+      let copies : copied ≡ shorts = c ∙ ap (take n) other ∙ take_at shorts (drop (length ss) old) n (length-map ss (λ t. whole (concurrent Short t ss es ds)) ∙ a.1) in
       let first : List Float = longs ++ drop (length ss) (take half xs) in
       let ys : long ++ drop k xs ≡ first ++ drop half xs =
       rw front (put_back (length ss) k longs xs few (omega arith) ∙ sym (put_back (length ss) half longs xs (omega arith) (omega arith))) in
-      let lf : length first ≡ half = simp (length-append, length-drop, length-take) (omega (arith, length-map ss (λ t. whole (concurrent true t ss es ds)))) in
+      let lf : length first ≡ half = simp (length-append, length-drop, length-take) (omega (arith, length-map ss (λ t. whole (concurrent Long t ss es ds)))) in
       let rest : drop (half + n - half) (drop half xs) ≡ drop (length ss) (drop half xs) = ap (λ (j : ℕ). drop j (drop half xs)) (omega (arith, a.1)) in
       (rw (all, a.1), rw (all, ys, take_at first (drop half xs) half lf, drop_at first (drop half xs) half lf, rest, copies))

@@ -12,18 +12,18 @@ pub returns-in_default : goal.returns-in_default
 returns-in_default c =
     let l = c.loop-i in
     let a = c.args in
-    faultless a.s.now l.at l.i a.starts.now l.starts a.ends.now l.ends a.sides.now l.sides c.requires l.invariant c.loop-i-test.true c.in_default.ensures
+    faultless a.s.now l.rest.now l.i a.starts.now l.starts a.ends.now l.ends a.sides.now l.sides c.requires l.invariant c.loop-i-test.true c.in_default.ensures
 
 pub loop-i-preserved : goal.loop-i-preserved
 loop-i-preserved c =
     let l = c.loop-i in
     let a = c.args in
-    let v = c.in-Is in
+    let v = c.in-Some in
     rw (to_z-of_z w64 v.span.from (search rules), to_z-of_z w64 v.span.to (search rules), c.float_of.ensures)
-    (put a.s.now l.at l.i a.starts.now l.starts a.ends.now l.ends a.sides.now l.sides c.requires l.invariant c.loop-i-test.true v.span v.k v.ensures)
+    (put a.s.now l.rest.now l.i a.starts.now l.starts a.ends.now l.ends a.sides.now l.sides c.requires l.invariant c.loop-i-test.true v.span v.after.now v.ensures)
 
 pub returns : goal.returns
 returns c =
     let l = c.loop-i in
     let a = c.args in
-    filled a.s.now l.at l.i a.starts.now l.starts a.ends.now l.ends a.sides.now l.sides c.requires l.invariant c.loop-i-test.false
+    filled a.s.now l.rest.now l.i a.starts.now l.starts a.ends.now l.ends a.sides.now l.sides c.requires l.invariant c.loop-i-test.false

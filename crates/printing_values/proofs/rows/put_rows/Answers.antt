@@ -17,18 +17,18 @@ returns-in_default c = rw c.in_default.ensures puts_none
 
 pub returns-in_default-read_next_instant : goal.returns-in_default-read_next_instant
 returns-in_default-read_next_instant c =
-    rw (c.in-Is.ensures, ← two_columns, ← c.min-columns.ensures)
+    rw (c.in-Some.ensures, ← two_columns, ← c.min-most.ensures)
     (no_start _ _ _ _ _ (omega arith) c.in_default-read_next_instant.ensures c.loop-i.invariant)
 
 pub slice_bounds-put_fractions-end : goal.slice_bounds-put_fractions-end
-slice_bounds-put_fractions-end c = sym (length-take-le _ _ (omega (arith, c.min-columns.ensures, ap length c.two_at-v.ensures)))
+slice_bounds-put_fractions-end c = sym (length-take-le _ _ (omega (arith, c.min-most.ensures, ap length c.two_at-v.ensures)))
 
 pub loop-i-preserved : goal.loop-i-preserved
 loop-i-preserved c =
-    let p = rw (to_z-of_z w64 c.in-Is-read_next_instant.t (search rules)) at c.put_instant-to.ensures in
-    left_row _ _ _ _ _ (omega arith) c.in-Is-read_next_instant.ensures c.loop-i.invariant p c.two_at-v.ensures c.put_fractions-to.ensures
+    let p = rw (to_z-of_z w64 c.in-Some-read_next_instant.t (search rules)) at c.put_instant-to.ensures in
+    left_row _ _ _ _ _ (omega arith) c.in-Some-read_next_instant.ensures c.loop-i.invariant p c.two_at-v.ensures c.put_fractions-to.ensures
 
 pub returns : goal.returns
 returns c =
-    rw (c.in-Is.ensures, ← two_columns, ← c.min-columns.ensures)
+    rw (c.in-Some.ensures, ← two_columns, ← c.min-most.ensures)
     (no_row _ _ _ _ _ (omega arith) c.loop-i.invariant)
