@@ -7,6 +7,7 @@ use Rattle.tables.specs.Tables.{Row, ◌⇒◌, answers, expected}
 use Rattle.text.specs.Bytes.{bytes}
 use Rattle.text.specs.Decode.{instant, natural, nibble, numeral, word}
 use Rattle.text.specs.Print.{decimal, hex, shown, width}
+use Rattle.refusal.specs.declared.Refusal.TheVariants.{TooFewWeights}
 use Rattle.protocol_lists.specs.Lists.{values_of}
 use Rattle.refusal.specs.declared.Refusal.TheVariants.{TooFewWeights}
 use Rattle.replies.specs.declared.forms.Reply as reply

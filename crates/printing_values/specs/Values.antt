@@ -1,8 +1,7 @@
 -- The values of a reply, as docs/REQUESTS.md lists them: texts that are put one after another, each value after a blank. Definitions only.
 use Rattle.std.specs.Prelude.{ℕ, List, [], ◌∷◌, ◌++◌, Float, Option, Some, None, take}
 use Rattle.grid_rows.specs.declared.FitResultRow.{FitResultRow}
-use Rattle.moments.specs.declared.Five.{Five}
-use Rattle.moments.specs.declared.Params.{Params}
+use Rattle.moments.specs.Figures.{listed, params_listed}
 use Rattle.refusal.specs.Numbers.{number_of}
 use Rattle.text.specs.Bytes.{bytes}
 use Rattle.replies.specs.declared.forms.Report.{Report}
@@ -11,15 +10,9 @@ use Rattle.replies.specs.declared.forms.Search.{Search}
 use Rattle.printing_values.specs.Rows.{rows}
 use Rattle.printing_values.specs.Texts.{fractions, instant, natural}
 
-abbrev pub moments : Five → List Float
-moments m = m.m_1 ∷ m.m_2 ∷ m.m_3 ∷ m.m_4 ∷ m.m_5 ∷ []
-
-abbrev pub parameters : Params → List Float
-parameters p = p.mu_1 ∷ p.mu_2 ∷ p.sigma_1 ∷ p.sigma_2 ∷ p.p_1 ∷ []
-
 -- how a walk ended, and the state after it
 abbrev pub walked : Report → List (List ℕ)
-walked w = natural w.count ++ (natural w.reason ++ fractions (parameters w.state.parameters ++ (w.state.error ∷ moments w.state.new_moments)))
+walked w = natural w.count ++ (natural w.reason ++ fractions (params_listed w.state.parameters ++ (w.state.error ∷ listed w.state.new_moments)))
 
 -- the row that a search found, if it found one
 abbrev pub found : Option FitResultRow → List (List ℕ)
@@ -28,7 +21,7 @@ found None = bytes " none" ∷ []
 
 -- and the state after it
 abbrev pub searched : Search → List (List ℕ)
-searched f = found f.row ++ (bytes " state" ∷ fractions (parameters f.state.parameters ++ (f.state.error ∷ f.epsilon ∷ moments f.state.new_moments)))
+searched f = found f.row ++ (bytes " state" ∷ fractions (params_listed f.state.parameters ++ (f.state.error ∷ f.epsilon ∷ listed f.state.new_moments)))
 
 -- the values of a reply, for the request s and the list xs that stands beside the reply
 abbrev pub values : reply.Reply → List ℕ → List Float → List (List ℕ)
@@ -36,8 +29,8 @@ values (reply.TheVariants.Refused refusal) s xs = natural (number_of refusal)
 values (reply.TheVariants.Fraction x) s xs = fractions (x ∷ [])
 values (reply.TheVariants.Natural n) s xs = natural n
 values (reply.TheVariants.Instant i) s xs = instant i
-values (reply.TheVariants.Moments m) s xs = fractions (moments m)
-values (reply.TheVariants.Parameters p) s xs = fractions (parameters p)
+values (reply.TheVariants.Moments m) s xs = fractions (listed m)
+values (reply.TheVariants.Parameters p) s xs = fractions (params_listed p)
 values reply.TheVariants.Inadmissible s xs = []
 values (reply.TheVariants.Walked w) s xs = walked w
 values (reply.TheVariants.Searched f) s xs = searched f
