@@ -6,11 +6,11 @@ ghost use Rattle.std.specs.Prelude.{◌≡◌, ◌≤◌, length};
 ghost use Rattle.iterate.specs.Refusals.{iter4, iter5};
 ghost use Rattle.refusal.specs.Numbers.{status_of};
 ghost use Rattle.capi_steps.specs.Steps.{StepLeaves, count_if, roomed, with_step};
-ghost use Rattle.capi_steps.specs.Walks.{WalkLeaves, outcome_of, refusal_of, walked};
+ghost use Rattle.capi_steps.specs.Walks.{WalkLeaves, outcome_of, walked};
 
 use refusal::Refusal;
 use step::Step;
-use walk::{M2N, Outcome};
+use walk::Walked;
 
 // How many steps are admitted, 1 or 0; where none, the lent numbers stay as they were.
 fn leave_step(s: Step, numbers: &mut [f64]) -> usize
@@ -71,34 +71,28 @@ pub extern "C" fn woddirme_iter_5(
     refusal::status_of(leave(answer, admitted, numbers))
 }
 
-// As refusal_of, for a walk.
-fn walk_refusal(o: Outcome) -> u64
-    ensures { result ≡ refusal_of o }
-{
-    match o {
-        Outcome::Refused(n) => n,
-        Outcome::Ended(_, _) => 0,
-    }
-}
-
-// Leaves a walk's outcome in the lent places, and answers the number of its refusal, 0 for none.
-fn leave_walk(o: Outcome, m: M2N, fit: &mut [f64], count: &mut usize, reason: &mut u64) -> u64
+// Leaves a walk's outcome in the lent places.
+fn leave_walk(
+    walked: Walked,
+    fit: &mut [f64],
+    count: &mut usize,
+    reason: &mut u64,
+) -> Result<(), Refusal>
     requires { 12 ≤ length fit.old }
-    ensures { WalkLeaves o m fit.old count.old reason.old result fit.new count.new reason.new }
+    ensures { WalkLeaves walked.outcome walked.state fit.old count.old reason.old (status_of result) fit.new count.new reason.new }
 {
-    let Outcome::Ended(n, why) = o else {
-        return walk_refusal(o);
-    };
-    capi_states::put_state(fit, m);
-    *count = n;
-    *reason = why;
-    0
+    let ended = walked.outcome?;
+    capi_states::put_state(fit, walked.state);
+    *count = ended.count;
+    *reason = u64::from(ended.reason);
+    Ok(())
 }
 
 // A walk from a mean and a weight (M2N::iterate_from). `fit` holds the state as for
 // woddirme_single_fit_loop; `count` becomes how many steps were taken and `reason` why they ended. 8
 // where `fit` is too short.
 #[unsafe(no_mangle)]
+#[tactic(auto, unfolding(crate::specs::Walks::walked, crate::specs::Walks::outcome_of))]
 pub extern "C" fn woddirme_iterate_from(
     moments: &[f64],
     variant: usize,
@@ -115,11 +109,9 @@ pub extern "C" fn woddirme_iterate_from(
         fit.old count.old reason.old result fit.new count.new reason.new }
 {
     if fit.len() < 12 {
-        return 8;
+        return u64::from(Refusal::TooLittleRoom);
     }
     let m = capi_states::state_of(moments, variant, factor, max_iter, 1, fit);
-    let w = walk::iterate_from(m, mu_2, p_1);
-    let o = w.outcome;
-    let state = w.state;
-    leave_walk(o, state, fit, count, reason)
+    let walked = walk::iterate_from(m, mu_2, p_1);
+    refusal::status_of(leave_walk(walked, fit, count, reason))
 }

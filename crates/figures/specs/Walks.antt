@@ -1,10 +1,10 @@
 -- Document 01's figures of the walk, for a variant: "Walk on M from (2, 0.5), epsilon 0.25, error 179975.5 before: 1 step, error 0, settled; with `max_iter` 1, spent; with 0, 0 steps, spent."
-use Rattle.std.specs.Prelude.{◌≡◌, false, ℕ}
+use Rattle.std.specs.Prelude.{◌≡◌, false, ℕ, Ok}
 use Rattle.std.specs.Float.{nan, binary64}
 use Rattle.std.specs.Float.Ieee.{round}
 use Rattle.walk.specs.Walk.{walk_of}
 use Rattle.walk.specs.declared.M2N.{M2N}
-use Rattle.walk.specs.declared.Outcome.TheVariants.{Ended}
+use Rattle.walk.specs.declared.Reason.TheVariants.{Settled, Spent}
 use Rattle.walk.specs.declared.Walked.{Walked}
 use Rattle.figures.specs.Figures.{◌·◌, params, five, listed, M}
 
@@ -26,7 +26,7 @@ abbrev walked : ℕ → ℕ → Walked
 walked variant limit = walk_of (before variant limit) (2 · 0) (0 · 5)
 
 pub record Walks (variant : ℕ) : Type 0 where
-  pub one_step : (walked variant 100).outcome ≡ Ended 1 2
+  pub one_step : (walked variant 100).outcome ≡ Ok (record { count = 1; reason = Settled })
   pub no_error : (walked variant 100).state.error ≡ 0 · 0
-  pub limit_one : (walked variant 1).outcome ≡ Ended 1 1
-  pub limit_none : (walked variant 0).outcome ≡ Ended 0 1
+  pub limit_one : (walked variant 1).outcome ≡ Ok (record { count = 1; reason = Spent })
+  pub limit_none : (walked variant 0).outcome ≡ Ok (record { count = 0; reason = Spent })

@@ -1,14 +1,14 @@
 // The replies.
-use grid::FitResultRow;
+use grid_rows::FitResultRow;
 use moments::{Five, Params};
 use protocol_lists::State;
 use refusal::Refusal;
+use walk::Ended;
 
 // How a walk ended, and the state after it.
 #[derive(Clone, Copy)]
 pub struct Report {
-    pub count: u64,
-    pub reason: u64,
+    pub ended: Ended,
     pub state: State,
 }
 

@@ -6,7 +6,6 @@ ghost use Rattle.replies.specs.Requests.{only_or};
 ghost use Rattle.run_requests.specs.Runs.{asked, asked_of, rows_in, runs, runs_in, runs_reply, with_rows, words};
 
 use grid::FitResultRow;
-use protocol_lists::State;
 use replies::Reply;
 use walk::M2N;
 
@@ -35,11 +34,6 @@ fn mp_fit(s: &[u8], xs: &mut [f64]) -> Option<Reply>
     let (n_runs, s) = protocol::read_next_natural(s, u64::MAX)?;
     let (places, s) = protocol::read_next_natural(s, u64::MAX)?;
     let (state, s) = protocol_lists::read_next_state(s)?;
-    let State {
-        parameters,
-        error,
-        new_moments,
-    } = state;
     let mut weights = [0.0; 4096];
     let n = protocol::only(protocol_lists::read_next_list(s, &mut weights))?;
     let m = M2N {
@@ -50,9 +44,9 @@ fn mp_fit(s: &[u8], xs: &mut [f64]) -> Option<Reply>
         n_runs: n_runs as usize,
         variant: variant as usize,
         max_iter: max_iter as usize,
-        new_moments,
-        parameters,
-        error,
+        new_moments: state.new_moments,
+        parameters: state.parameters,
+        error: state.error,
     };
     Some(fill(m, &weights[..n.min(4096)], places as usize, xs))
 }

@@ -21,7 +21,8 @@ use Rattle.scaling.specs.Scaling.{fair_walk, Compared}
 use Rattle.walk.specs.Trail.{step_for}
 use Rattle.walk.specs.Walk.{walk_refusal, walk_of}
 use Rattle.walk.specs.declared.M2N.{M2N}
-use Rattle.walk.specs.declared.Outcome.TheVariants.{Ended}
+use Rattle.walk.specs.declared.Reason.TheVariants.{Spent}
+use Rattle.std.specs.Prelude.{Ok}
 use Rattle.scaling.proofs.WalkScale.{walks_scale}
 
 -- ---- a state with these moments, at most two steps and the tolerance 2 ^ -20
@@ -93,7 +94,7 @@ From s variant = Compared s (first s variant M (whole 2) p) (second s variant M 
 
 -- the walk takes two steps and is fair, and so it is by 2, by 1/8 and by a large power of two
 pub record Examples (variant : ℕ) (large : ℤ) : Type 0 where
-  pub ends : (walk_of (state variant M) (whole 2) p).outcome ≡ Ended 2 1
+  pub ends : (walk_of (state variant M) (whole 2) p).outcome ≡ Ok (record { count = 2; reason = Spent })
   pub doubled : From (pos 1) variant
   pub eighth : From (negsuc 2) variant
   pub enlarged : From large variant

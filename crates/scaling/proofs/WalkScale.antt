@@ -5,7 +5,7 @@ use Prim.Native.Nat.{ℕ, zero, suc, ◌≤◌, ◌<◌}
 use native.Mathlib.Nat.{lt_of_lt_of_le}
 use mathlib.Core.Bool.{Bool, true, false, cond}
 use lib.IntN.{ℤ}
-use lib.Dec.{T, eqb, eqb-suc-zero}
+use lib.Dec.{T, eqb}
 use lib.ListN.{length}
 use lib.Ieee.{Float, binary64, fits}
 use lib.Ieee.Fits.{and_l, and_r}
@@ -16,8 +16,13 @@ use Rattle.scaling.specs.Scaling.{Twins, Doubles, fair_step, fair_from, fair_wal
 use Rattle.walk.specs.Trail.{settled, step_for, trail_from}
 use Rattle.walk.specs.Walk.{needed_by, walk_refusal, stopped, reason_of, trail_of, answered, walk_of, keep_all}
 use Rattle.walk.specs.declared.M2N.{M2N}
-use Rattle.walk.specs.declared.Outcome.{Outcome}
-use Rattle.walk.specs.declared.Outcome.TheVariants.{Refused, Ended}
+use Rattle.walk.specs.declared.Ended.{Ended}
+use Rattle.walk.specs.declared.Reason.{Reason}
+use Rattle.walk.specs.declared.Reason.TheVariants.{Spent}
+use Rattle.refusal.specs.Numbers.{unless_refused}
+use Rattle.refusal.specs.declared.Refusal.{Refusal}
+use Rattle.std.specs.Prelude.{Result, Ok, Err}
+use Rattle.std.specs.Result.{is_ok}
 use Rattle.walk.proofs.Trails.{enough}
 use Rattle.scaling.proofs.StepScale.{handed, Alike, Moments, step_scale}
 
@@ -76,7 +81,7 @@ stopped_map s (Inadmissible ∷ t) = refl
 stopped_map s (Admitted r ∷ t) = stopped_map s t
 
 reason_map : (s : ℤ) (limit : ℕ) (t : List Step) → reason_of limit (map (scale_step s) t) ≡ reason_of limit t
-reason_map s limit t = ap₂ (λ (n k : ℕ). cond (eqb n limit) 1 k) (length-map s t) (stopped_map s t)
+reason_map s limit t = ap₂ (λ (n : ℕ) (k : Reason). cond (eqb n limit) Spent k) (length-map s t) (stopped_map s t)
 
 -- ---- the refusals
 -- they ask only of the variant, the number of moments and the weight
@@ -102,30 +107,29 @@ trails_scale s m m' μ p t d d' n g h =
     (λ μ p a a' b. step_scale s m.moments m'.moments μ p a a' b v moments)
     m.max_iter μ p d.mean d'.mean d.weight g h')
 
--- ---- what a walk returns, by the number of its refusal
-abbrev outcome_by : ℕ → ℕ → List Step → Outcome
-outcome_by zero limit t = Ended (length t) (reason_of limit t)
-outcome_by (suc n) limit t = Refused (suc n)
+-- ---- what a walk returns, by its refusal
+abbrev outcome_by : Result (Unit {0}) Refusal → ℕ → List Step → Result Ended Refusal
+outcome_by r limit t = unless_refused r (record { count = length t; reason = reason_of limit t })
 
 outcome_is : (m : M2N) (μ p : Float) → (walk_of m μ p).outcome ≡ outcome_by (walk_refusal m p) m.max_iter (trail_of m μ p)
 unfolding walk_of
 outcome_is m μ p = go (walk_refusal m p)
   where
-    go : (n : ℕ) → (answered n m (keep_all m (trail_of m μ p)) (trail_of m μ p)).outcome ≡ outcome_by n m.max_iter (trail_of m μ p)
-    go zero = refl
-    go (suc n) = refl
+    go : (r : Result (Unit {0}) Refusal) → (answered r m (keep_all m (trail_of m μ p)) (trail_of m μ p)).outcome ≡ outcome_by r m.max_iter (trail_of m μ p)
+    go (Ok u) = refl
+    go (Err e) = refl
 
-abbrev taken : Outcome → ℕ
-taken (Refused k) = 0
-taken (Ended n reason) = n
+abbrev taken : Result Ended Refusal → ℕ
+taken (Ok e) = e.count
+taken (Err e) = 0
 
-counted : (m : M2N) (μ p : Float) (n reason : ℕ) → (walk_of m μ p).outcome ≡ Ended n reason → n ≡ length (walk_trail m μ p)
+counted : (m : M2N) (μ p : Float) (e : Ended) → (walk_of m μ p).outcome ≡ Ok e → e.count ≡ length (walk_trail m μ p)
 unfolding walk_trail
-counted m μ p n reason e = sym (ap taken (sym (outcome_is m μ p) ∙ e)) ∙ go (walk_refusal m p)
+counted m μ p e h = sym (ap taken (sym (outcome_is m μ p) ∙ h)) ∙ go (walk_refusal m p)
   where
-    go : (n : ℕ) → taken (outcome_by n m.max_iter (trail_of m μ p)) ≡ length (cond (eqb n 0) (trail_of m μ p) [])
-    go zero = refl
-    go (suc n) = rw (eqb-suc-zero n)
+    go : (r : Result (Unit {0}) Refusal) → taken (outcome_by r m.max_iter (trail_of m μ p)) ≡ length (cond (is_ok r) (trail_of m μ p) [])
+    go (Ok u) = refl
+    go (Err e) = refl
 
 -- ---- the theorem
 compared : (s : ℤ) (m m' : M2N) (μ p : Float) → Twins s m m' μ (scale s μ) → Doubles m μ p → Doubles m' (scale s μ) p
@@ -133,25 +137,25 @@ compared : (s : ℤ) (m m' : M2N) (μ p : Float) → Twins s m m' μ (scale s μ
 unfolding walk_trail fair_walk
 compared s m m' μ p t d d' g h =
     record {
-      outcomes = outcome_is m' (scale s μ) p ∙ ap₂ (λ (n limit : ℕ). outcome_by n limit (trail_of m' (scale s μ) p)) same t.limits ∙ ends (walk_refusal m p) alike ∙ sym (outcome_is m μ p);
+      outcomes = outcome_is m' (scale s μ) p ∙ ap₂ (λ (r : Result (Unit {0}) Refusal) (limit : ℕ). outcome_by r limit (trail_of m' (scale s μ) p)) same t.limits ∙ ends (walk_refusal m p) alike ∙ sym (outcome_is m μ p);
       count = counted m μ p;
       count' = counted m' (scale s μ) p;
-      trails = ap (λ (n : ℕ). cond (eqb n 0) (trail_of m' (scale s μ) p) []) same ∙ lists (walk_refusal m p) alike;
+      trails = ap (λ (r : Result (Unit {0}) Refusal). cond (is_ok r) (trail_of m' (scale s μ) p) []) same ∙ lists (walk_refusal m p) alike;
     }
   where
     same : walk_refusal m' p ≡ walk_refusal m p
     same = refusals m m' p t.variants t.numbers
 
-    alike : walk_refusal m p ≡ 0 → trail_of m' (scale s μ) p ≡ map (scale_step s) (trail_of m μ p)
-    alike e = trails_scale s m m' μ p t d d' (enough m p e) (subst (λ (n : ℕ). T (cond (eqb n 0) (fair_trail m μ p) true)) e g) (subst (λ (n : ℕ). T (cond (eqb n 0) (fair_trail m' (scale s μ) p) true)) (same ∙ e) h)
+    alike : walk_refusal m p ≡ Ok tt → trail_of m' (scale s μ) p ≡ map (scale_step s) (trail_of m μ p)
+    alike e = trails_scale s m m' μ p t d d' (enough m p e) (subst (λ (r : Result (Unit {0}) Refusal). T (cond (is_ok r) (fair_trail m μ p) true)) e g) (subst (λ (r : Result (Unit {0}) Refusal). T (cond (is_ok r) (fair_trail m' (scale s μ) p) true)) (same ∙ e) h)
 
-    ends : (n : ℕ) → (n ≡ 0 → trail_of m' (scale s μ) p ≡ map (scale_step s) (trail_of m μ p)) → outcome_by n m.max_iter (trail_of m' (scale s μ) p) ≡ outcome_by n m.max_iter (trail_of m μ p)
-    ends zero e = ap (outcome_by 0 m.max_iter) (e refl) ∙ ap₂ Ended (length-map s (trail_of m μ p)) (reason_map s m.max_iter (trail_of m μ p))
-    ends (suc n) e = refl
+    ends : (r : Result (Unit {0}) Refusal) → (r ≡ Ok tt → trail_of m' (scale s μ) p ≡ map (scale_step s) (trail_of m μ p)) → outcome_by r m.max_iter (trail_of m' (scale s μ) p) ≡ outcome_by r m.max_iter (trail_of m μ p)
+    ends (Ok u) e = ap (outcome_by (Ok tt) m.max_iter) (e refl) ∙ ap₂ (λ (n : ℕ) (r : Reason). Ok (record { count = n; reason = r })) (length-map s (trail_of m μ p)) (reason_map s m.max_iter (trail_of m μ p))
+    ends (Err f) e = refl
 
-    lists : (n : ℕ) → (n ≡ 0 → trail_of m' (scale s μ) p ≡ map (scale_step s) (trail_of m μ p)) → cond (eqb n 0) (trail_of m' (scale s μ) p) [] ≡ map (scale_step s) (cond (eqb n 0) (trail_of m μ p) [])
-    lists zero e = e refl
-    lists (suc n) e = rw (eqb-suc-zero n)
+    lists : (r : Result (Unit {0}) Refusal) → (r ≡ Ok tt → trail_of m' (scale s μ) p ≡ map (scale_step s) (trail_of m μ p)) → cond (is_ok r) (trail_of m' (scale s μ) p) [] ≡ map (scale_step s) (cond (is_ok r) (trail_of m μ p) [])
+    lists (Ok u) e = e refl
+    lists (Err f) e = refl
 
 pub walks_scale : WalksScale
 walks_scale s m m' μ μ' p t d d' g h =

@@ -3,7 +3,8 @@
 -- the first's and the starting mean 2^s times, whatever else either fit state holds, and let each input and rounded result met in the steps of either be from 2^-900 to 2^900 in size, or zero before
 -- its own rounding. Then both walks return equally many steps, each its own trail's length, and the same reason, or are refused by the same number, and their trails agree at every step: where one is
 -- inadmissible so is the other, and otherwise the weights are the same bit for bit, while both means and both deviations of the second are exactly 2^s times the first's."
-use Rattle.std.specs.Prelude.{◌≡◌, List, [], ◌∷◌, map, Bool, true, ◌&&◌, cond, ℕ, zero, suc, ◌<◌, T, eqb, ℤ, pos, ◌*ℤ◌, length, get_or, Float}
+use Rattle.std.specs.Prelude.{◌≡◌, List, [], ◌∷◌, map, Bool, true, ◌&&◌, cond, ℕ, zero, suc, ◌<◌, T, eqb, ℤ, pos, ◌*ℤ◌, length, get_or, Float, Ok}
+use Rattle.std.specs.Result.{is_ok}
 use Rattle.std.specs.Float.{nan, binary64}
 use Rattle.std.specs.Float.Ieee.{fits}
 use Rattle.float.specs.Scale.{scale}
@@ -15,7 +16,7 @@ use Rattle.step.specs.declared.Step.TheVariants.{Admitted, Inadmissible}
 use Rattle.walk.specs.Trail.{settled, step_for}
 use Rattle.walk.specs.Walk.{trail_of, walk_refusal, walk_of}
 use Rattle.walk.specs.declared.M2N.{M2N}
-use Rattle.walk.specs.declared.Outcome.TheVariants.{Ended}
+use Rattle.walk.specs.declared.Ended.{Ended}
 
 -- ---- the second walk
 -- alike, but with each k-th moment 2^(k s) times the first's and the starting mean 2^s times; places are counted from 0, so the k-th moment stands at k - 1
@@ -52,10 +53,10 @@ fair_from fair step ε (suc n) μ p =
 unfoldable pub fair_walk : M2N → Float → Float → Bool
 unfolding fair_from fair_step
 fair_walk m μ p =
-    cond (eqb (walk_refusal m p) 0) (fair_from (fair_step m.variant m.moments) (step_for m.variant m.moments) m.epsilon m.max_iter μ p) true
+    cond (is_ok (walk_refusal m p)) (fair_from (fair_step m.variant m.moments) (step_for m.variant m.moments) m.epsilon m.max_iter μ p) true
 
 unfoldable pub walk_trail : M2N → Float → Float → List Step
-walk_trail m μ p = cond (eqb (walk_refusal m p) 0) (trail_of m μ p) []
+walk_trail m μ p = cond (is_ok (walk_refusal m p)) (trail_of m μ p) []
 
 -- ---- how the two compare
 -- both means and both deviations 2^s times as large, the weight the same
@@ -70,8 +71,8 @@ pub record Compared (s : ℤ) (m m' : M2N) (μ μ' p : Float) : Type 0 where
   -- equally many steps and the same reason, or refused by the same number
   pub outcomes : (walk_of m' μ' p).outcome ≡ (walk_of m μ p).outcome
   -- each count is its own trail's length
-  pub count : (n reason : ℕ) → (walk_of m μ p).outcome ≡ Ended n reason → n ≡ length (walk_trail m μ p)
-  pub count' : (n reason : ℕ) → (walk_of m' μ' p).outcome ≡ Ended n reason → n ≡ length (walk_trail m' μ' p)
+  pub count : (e : Ended) → (walk_of m μ p).outcome ≡ Ok e → e.count ≡ length (walk_trail m μ p)
+  pub count' : (e : Ended) → (walk_of m' μ' p).outcome ≡ Ok e → e.count ≡ length (walk_trail m' μ' p)
   -- the trails agree, entry by entry
   pub trails : walk_trail m' μ' p ≡ map (scale_step s) (walk_trail m μ p)
 

@@ -6,7 +6,6 @@ ghost use Rattle.protocol.specs.Words.{only};
 ghost use Rattle.search_requests.specs.Searches.{next_given, searched_reply, searches, single};
 
 use grid::Fitted;
-use protocol_lists::State;
 use replies::{Reply, Search};
 use walk::M2N;
 
@@ -30,11 +29,6 @@ fn single_fit(words: &[u8]) -> Option<Reply>
     let (factor, words) = protocol::read_next_fraction(words)?;
     let (max_iter, words) = protocol::read_next_natural(words, u64::MAX)?;
     let (state, words) = protocol_lists::read_next_state(words)?;
-    let State {
-        parameters,
-        error,
-        new_moments,
-    } = state;
     let mut weights = [0.0; 4096];
     let n = protocol::only(protocol_lists::read_next_list(words, &mut weights))?;
     let m = M2N {
@@ -45,9 +39,9 @@ fn single_fit(words: &[u8]) -> Option<Reply>
         n_runs: 1,
         variant: variant as usize,
         max_iter: max_iter as usize,
-        new_moments,
-        parameters,
-        error,
+        new_moments: state.new_moments,
+        parameters: state.parameters,
+        error: state.error,
     };
     let fitted = ef3m::single_fit_through(m, epsilon_override, &weights[..n.min(4096)]);
     Some(reply(fitted))

@@ -10,14 +10,14 @@ use lib.Dec.{T}
 use lib.Ieee.{Float, nan, inf, fin, lt, eq, is_nan, fits, binary64, to_bits, of_bits}
 use lib.Ieee.Bits.{of_bits-to_bits}
 use Rattle.float.proofs.Order.{lt_irrefl, lt_chain}
-use Rattle.moments.specs.Figures.{listed}
+use Rattle.moments.specs.Figures.{five_of, listed}
 use Rattle.moments.specs.Mixture.{get_moments}
 use Rattle.moments.specs.declared.Five.{Five}
 use Rattle.moments.specs.declared.Params.{Params}
 use Rattle.step.specs.declared.Step.TheVariants.{Admitted}
 use Rattle.walk.specs.Parts.{chosen, fit_after, Turned, stays, looks, rounds_on}
 use Rattle.walk.specs.Trail.{settled, step_for}
-use Rattle.walk.specs.Walk.{squares, five_of}
+use Rattle.walk.specs.Walk.{squares}
 use Rattle.walk.specs.declared.Fit.{Fit}
 use Rattle.walk.specs.declared.M2N.{M2N}
 use Rattle.walk.specs.declared.Seen.{Seen}

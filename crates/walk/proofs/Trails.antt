@@ -3,7 +3,6 @@ use mathlib.Core.Path.{◌≡◌, refl, sym, ap, ◌∙◌}
 use mathlib.Core.List.{List, [], ◌∷◌}
 use mathlib.Core.Bool.{Bool, true, false, not, ◌||◌, ◌&&◌, cond}
 use Prim.Native.Nat.{ℕ, zero, suc, ◌+◌, ◌-◌, ◌≤◌, ◌<◌, min}
-use native.Mathlib.Nat.{suc-ne-zero}
 use lib.ListN.{length}
 use lib.Dec.{eqb, ltb}
 use lib.Ieee.{Float, binary64, sub, lt, le}
@@ -14,18 +13,23 @@ use borrow.Author.Tests.{eq-eqb, ltb-false}
 use Rattle.float.specs.Power.{power_of}
 use Rattle.formula.specs.Formula.{eval}
 use Rattle.moments.specs.Mixture.{get_moments}
-use Rattle.moments.specs.Figures.{listed}
+use Rattle.moments.specs.Figures.{five_of, listed}
+use Rattle.refusal.specs.declared.Refusal.{Refusal}
+use Rattle.refusal.specs.declared.Refusal.TheVariants.{TooFewMoments, TooManyMoments, UnknownVariant, BadWeight}
+use Rattle.std.specs.Prelude.{Result, Ok, Err}
 use Rattle.moments.specs.declared.Five.{Five}
 use Rattle.moments.specs.declared.Params.{Params}
 use Rattle.step.specs.Steps.{sigma2_squared}
 use Rattle.step.specs.declared.Step.{Step}
 use Rattle.step.specs.declared.Step.TheVariants.{Admitted, Inadmissible}
-use Rattle.walk.specs.Parts.{chosen, fit_after, with_fit_of, reason_for}
+use Rattle.walk.specs.Parts.{chosen, ended_after, fit_after, needed_for, with_fit_of}
 use Rattle.walk.specs.Trail.{settled, step_for, trail_from}
-use Rattle.walk.specs.Walk.{needed_by, squares, error_of, five_of, better, keep_of, keep_all, trail_of, stopped, walk_refusal, answered, walk_of}
+use Rattle.walk.specs.Walk.{later_refusal, needed_by, squares, error_of, better, keep_of, keep_all, trail_of, stopped, walk_refusal, answered, walk_of}
 use Rattle.walk.specs.declared.M2N.{M2N}
 use Rattle.walk.specs.declared.Fit.{Fit}
-use Rattle.walk.specs.declared.Outcome.TheVariants.{Refused, Ended}
+use Rattle.walk.specs.declared.Ended.{Ended}
+use Rattle.walk.specs.declared.Reason.TheVariants as reason
+use Rattle.walk.specs.declared.Reason.TheVariants.{Spent, Settled}
 use Rattle.walk.specs.declared.Walked.{Walked}
 
 -- ---- the error reads at most five moments
@@ -49,7 +53,7 @@ zero_first t = omega (arith, counted_adds 0 t)
 
 -- the walk that has taken k steps, has the entries t to come and comes from the state s
 abbrev pub ends_from : M2N → ℕ → List Step → Walked
-ends_from s k t = record { state = keep_all s t; outcome = Ended (counted k t) (reason_for (counted k t) s.max_iter (stopped t)) }
+ends_from s k t = record { state = keep_all s t; outcome = Ok (ended_after (counted k t) s.max_iter (stopped t)) }
 
 -- after k steps, at the fit f and the pair μ, p
 abbrev pub left_of : M2N → Fit → ℕ → Float → Float → Walked
@@ -91,7 +95,7 @@ one_less n k = omega arith
 all_less : (n k : ℕ) → k ≡ n → n - k ≡ 0
 all_less n k = omega arith
 
-pub begins : (m : M2N) (μ p : Float) → 0 ≡ walk_refusal m p → walk_of m μ p ≡ left_of m (record { new_moments = m.new_moments; parameters = m.parameters; error = m.error }) 0 μ p
+pub begins : (m : M2N) (μ p : Float) → Ok tt ≡ walk_refusal m p → walk_of m μ p ≡ left_of m (record { new_moments = m.new_moments; parameters = m.parameters; error = m.error }) 0 μ p
 unfolding walk_of trail_of
 begins m μ p h = rw (none_less m.max_iter, sym h, zero_first (trail_of m μ p))
 
@@ -118,17 +122,17 @@ fit_on len ms a f g r ha hg = hg ∙ ap (λ x. fit_after len x f r) ha
 pub settled_on : (ε p p' d : Float) (b : Bool) → d ≡ abs_of (sub binary64 p p') → lt d ε ≡ b → settled ε p p' ≡ b
 settled_on ε p p' d b hd hb = ap (λ x. lt x ε) (sym hd) ∙ hb
 
-pub spent : (m : M2N) (f : Fit) (k : ℕ) (μ p : Float) (x : M2N) → k ≡ m.max_iter → x ≡ with_fit_of m f → record { state = x; outcome = Ended k 1 } ≡ left_of m f k μ p
+pub spent : (m : M2N) (f : Fit) (k : ℕ) (μ p : Float) (x : M2N) → k ≡ m.max_iter → x ≡ with_fit_of m f → record { state = x; outcome = Ok (record { count = k; reason = Spent }) } ≡ left_of m f k μ p
 unfolding trail_from keep_all
 spent m f k μ p x h hx = rw (all_less m.max_iter k h, eq-eqb k m.max_iter h, hx)
 
-pub turned_away : (m : M2N) (f : Fit) (k : ℕ) (μ p : Float) (x : M2N) (q : ℕ) → k < m.max_iter → step_for m.variant m.moments μ p ≡ Inadmissible → x ≡ with_fit_of m f → q ≡ reason_for (k + 1) m.max_iter 3 → record { state = x; outcome = Ended (k + 1) q } ≡ left_of m f k μ p
+pub turned_away : (m : M2N) (f : Fit) (k : ℕ) (μ p : Float) (x : M2N) (q : Ended) → k < m.max_iter → step_for m.variant m.moments μ p ≡ Inadmissible → x ≡ with_fit_of m f → q ≡ ended_after (k + 1) m.max_iter reason.Inadmissible → record { state = x; outcome = Ok q } ≡ left_of m f k μ p
 unfolding keep_all keep_of
 turned_away m f k μ p x q h e hx hq =
     let n = m.max_iter - (k + 1) in
     rw (one_less m.max_iter k h, out (step_for m.variant m.moments) m.epsilon n μ p e, hx, hq)
 
-pub settles : (m : M2N) (f g : Fit) (k : ℕ) (μ p : Float) (r : Params) (x : M2N) (q : ℕ) → k < m.max_iter → step_for m.variant m.moments μ p ≡ Admitted r → g ≡ fit_after m.len (five_of m.moments) f r → settled m.epsilon p r.p_1 ≡ true → x ≡ with_fit_of m g → q ≡ reason_for (k + 1) m.max_iter 2 → record { state = x; outcome = Ended (k + 1) q } ≡ left_of m f k μ p
+pub settles : (m : M2N) (f g : Fit) (k : ℕ) (μ p : Float) (r : Params) (x : M2N) (q : Ended) → k < m.max_iter → step_for m.variant m.moments μ p ≡ Admitted r → g ≡ fit_after m.len (five_of m.moments) f r → settled m.epsilon p r.p_1 ≡ true → x ≡ with_fit_of m g → q ≡ ended_after (k + 1) m.max_iter Settled → record { state = x; outcome = Ok q } ≡ left_of m f k μ p
 unfolding keep_all
 settles m f g k μ p r x q h e hg s hx hq =
     let n = m.max_iter - (k + 1) in
@@ -140,31 +144,49 @@ goes_on m f g k μ p r h e hg s =
     let n = m.max_iter - (k + 1) in
     let t = trail_from (step_for m.variant m.moments) m.epsilon n r.mu_2 r.p_1 in
     rw (one_less m.max_iter k h, on (step_for m.variant m.moments) m.epsilon n μ p r e, s)
-    (ap (λ x. record { state = keep_all x t; outcome = Ended (counted (k + 1) t) (reason_for (counted (k + 1) t) m.max_iter (stopped t)) }) (keeps m f r ∙ ap (with_fit_of m) (sym hg)))
+    (ap (λ x. record { state = keep_all x t; outcome = Ok (ended_after (counted (k + 1) t) m.max_iter (stopped t)) }) (keeps m f r ∙ ap (with_fit_of m) (sym hg)))
 
 -- ---- a walk that is not refused
 -- a walk not refused has the moments that its step reads
-pub enough : (m : M2N) (p : Float) → walk_refusal m p ≡ 0 → needed_by m.variant ≤ m.len
+ok_is : {n k : ℕ} → ◌≡◌ {A = Result ℕ Refusal} (Ok n) (Ok k) → n ≡ k
+ok_is e = grind arith
+
+pub enough : (m : M2N) (p : Float) → walk_refusal m p ≡ Ok tt → needed_by m.variant ≤ m.len
 unfolding walk_refusal
-enough m p e = go (not (eqb m.variant 1 || eqb m.variant 2)) (ltb m.len (needed_by m.variant)) (ltb 16 m.len) (le nought p && lt p one) (ltb-false m.len (needed_by m.variant)) e
+enough m p e = go (not (eqb m.variant 1 || eqb m.variant 2)) (ltb m.len (needed_by m.variant)) (ltb-false m.len (needed_by m.variant)) e
   where
-    go : (a b c d : Bool) → (b ≡ false → needed_by m.variant ≤ m.len) → ◌≡◌ {A = ℕ} (cond a 3 (cond b 1 (cond c 2 (cond d 0 7)))) 0 → needed_by m.variant ≤ m.len
-    go true b c d f e = absurd (suc-ne-zero _ e)
-    go false true c d f e = absurd (suc-ne-zero _ e)
-    go false false c d f e = f refl
+    go : (a b : Bool) → (b ≡ false → needed_by m.variant ≤ m.len)
+        → ◌≡◌ {A = Result (Unit {0}) Refusal} (cond a (Err UnknownVariant) (cond b (Err TooFewMoments) (cond (ltb 16 m.len) (Err TooManyMoments) (cond (le nought p && lt p one) (Ok tt) (Err BadWeight))))) (Ok tt) → needed_by m.variant ≤ m.len
+    go true b f e = cc
+    go false true f e = cc
+    go false false f e = f refl
 
 at_least_four : (b : Bool) (n : ℕ) → cond b 4 5 ≤ n → 4 ≤ n
 at_least_four true n h = h
 at_least_four false n h = omega (arith, h)
 
-pub four_given : (m : M2N) (p : Float) → 0 ≡ walk_refusal m p → 4 ≤ m.len
+pub four_given : (m : M2N) (p : Float) → Ok tt ≡ walk_refusal m p → 4 ≤ m.len
 four_given m p h = at_least_four (eqb m.variant 1) m.len (enough m p (sym h))
 
--- ---- a walk that is refused
-refuses : (m kept : M2N) (t : List Step) (n : ℕ) → (n ≡ 0 → ⊥) → record { state = m; outcome = Refused n } ≡ answered n m kept t
-refuses m kept t zero h = absurd (h refl)
-refuses m kept t (suc n) h = refl
+-- ---- the refusals
+-- a known variant leaves the later ones
+pub later : (m : M2N) (p : Float) (n : ℕ) → Ok n ≡ needed_for m.variant → walk_refusal m p ≡ later_refusal m.len n p
+unfolding walk_refusal
+later m p n e = go (not (eqb m.variant 1 || eqb m.variant 2)) e
+  where
+    go : (b : Bool) → ◌≡◌ {A = Result ℕ Refusal} (Ok n) (cond b (Err UnknownVariant) (Ok (needed_by m.variant))) → cond b (Err UnknownVariant) (later_refusal m.len (needed_by m.variant) p) ≡ later_refusal m.len n p
+    go true e = cc
+    go false e = ap (λ (k : ℕ). later_refusal m.len k p) (sym (ok_is e))
 
-pub refused : (m : M2N) (μ p : Float) (n : ℕ) → n ≡ walk_refusal m p → (n ≡ 0 → ⊥) → record { state = m; outcome = Refused n } ≡ walk_of m μ p
+pub unknown : (m : M2N) (p : Float) (f : Refusal) → Err f ≡ needed_for m.variant → Err f ≡ walk_refusal m p
+unfolding walk_refusal
+unknown m p f e = go (not (eqb m.variant 1 || eqb m.variant 2)) e
+  where
+    go : (b : Bool) → ◌≡◌ {A = Result ℕ Refusal} (Err f) (cond b (Err UnknownVariant) (Ok (needed_by m.variant))) → Err f ≡ cond b (Err UnknownVariant) (later_refusal m.len (needed_by m.variant) p)
+    go true e = grind arith
+    go false e = cc
+
+-- ---- a walk that is refused
+pub refused : (m : M2N) (μ p : Float) (e : Refusal) → Err e ≡ walk_refusal m p → record { state = m; outcome = Err e } ≡ walk_of m μ p
 unfolding walk_of
-refused m μ p n e h = refuses m (keep_all m (trail_of m μ p)) (trail_of m μ p) n h ∙ ap (λ x. answered x m (keep_all m (trail_of m μ p)) (trail_of m μ p)) e
+refused m μ p e h = ap (λ x. answered x m (keep_all m (trail_of m μ p)) (trail_of m μ p)) h

@@ -1,13 +1,18 @@
 -- What the parts of the walk promise each other: the fit part of the state by itself. Definitions only.
-use Rattle.std.specs.Prelude.{Bool, true, false, cond, eqb, ◌≡◌, ℕ, ◌+◌, ◌*◌, ◌-◌, ◌≤◌, min, Float}
+use Rattle.std.specs.Prelude.{Bool, true, false, not, ◌||◌, cond, eqb, ◌≡◌, ℕ, ◌+◌, ◌*◌, ◌-◌, ◌≤◌, min, Float, Result, Ok, Err}
 use Rattle.std.specs.Float.Ieee.{lt}
 use Rattle.moments.specs.Figures.{listed}
 use Rattle.moments.specs.Mixture.{get_moments}
 use Rattle.moments.specs.declared.Five.{Five}
 use Rattle.moments.specs.declared.Params.{Params}
-use Rattle.walk.specs.Walk.{squares, with_fit}
+use Rattle.refusal.specs.declared.Refusal.{Refusal}
+use Rattle.refusal.specs.declared.Refusal.TheVariants.{UnknownVariant}
+use Rattle.walk.specs.Walk.{needed_by, squares, with_fit}
 use Rattle.walk.specs.declared.M2N.{M2N}
+use Rattle.walk.specs.declared.Ended.{Ended}
 use Rattle.walk.specs.declared.Fit.{Fit}
+use Rattle.walk.specs.declared.Reason.{Reason}
+use Rattle.walk.specs.declared.Reason.TheVariants.{Spent}
 use Rattle.walk.specs.declared.Seen.{Seen}
 use Rattle.walk.specs.declared.Turn.{Turn}
 
@@ -24,9 +29,13 @@ fit_after len a f r = let n = get_moments r in let e = squares (listed a) (liste
 abbrev pub with_fit_of : M2N → Fit → M2N
 with_fit_of m f = with_fit m f.new_moments f.parameters f.error
 
--- 1 where the count is the limit
-abbrev pub reason_for : ℕ → ℕ → ℕ → ℕ
-reason_for count limit stopped = cond (eqb count limit) 1 stopped
+-- how many moments the variant's step reads, if it is a variant
+abbrev pub needed_for : ℕ → Result ℕ Refusal
+needed_for variant = cond (not (eqb variant 1 || eqb variant 2)) (Err UnknownVariant) (Ok (needed_by variant))
+
+-- how a walk ended that was stopped so: spent where the count is the limit
+abbrev pub ended_after : ℕ → ℕ → Reason → Ended
+ended_after count limit stopped = record { count = count; reason = cond (eqb count limit) Spent stopped }
 
 -- one turn of the walk's count: as it was; or with another pair to look out for; or, where the pair is the one looked out for, with whole rounds counted
 pub data Turned (count limit : ℕ) (μ p : Float) (seen : Seen) (r : Turn) : Type 0 where

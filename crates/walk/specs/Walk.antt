@@ -1,17 +1,22 @@
--- What a walk answers: refused by document 01's number, or its trail's length, the reason, and the best of what was met. Definitions only.
-use Rattle.std.specs.Prelude.{List, [], ◌∷◌, Bool, true, false, ◌&&◌, ◌||◌, not, cond, ℕ, zero, suc, min, ltb, eqb, length, get_or, Float}
+-- What a walk answers: refused, or its trail's length, the reason, and the best of what was met. Definitions only.
+use Rattle.std.specs.Prelude.{List, [], ◌∷◌, Bool, true, false, ◌&&◌, ◌||◌, not, cond, ℕ, zero, suc, min, ltb, eqb, length, get_or, Float, Result, Ok, Err}
 use Rattle.std.specs.Float.{nan, binary64}
 use Rattle.std.specs.Float.Ieee.{add, sub, mul, lt, le}
 use Rattle.float.specs.Constants.{nought, one, minus_nought}
 use Rattle.moments.specs.Mixture.{get_moments}
 use Rattle.moments.specs.Figures.{listed}
+pub use Rattle.moments.specs.Figures.{five_of}
 use Rattle.moments.specs.declared.Five.{Five}
 use Rattle.moments.specs.declared.Params.{Params}
+use Rattle.refusal.specs.declared.Refusal.{Refusal}
+use Rattle.refusal.specs.declared.Refusal.TheVariants.{TooFewMoments, TooManyMoments, UnknownVariant, BadWeight}
 use Rattle.step.specs.declared.Step.{Step}
 use Rattle.step.specs.declared.Step.TheVariants.{Admitted, Inadmissible}
 use Rattle.walk.specs.Trail.{step_for, trail_from}
 use Rattle.walk.specs.declared.M2N.{M2N}
-use Rattle.walk.specs.declared.Outcome.TheVariants.{Refused, Ended}
+use Rattle.walk.specs.declared.Reason.{Reason}
+use Rattle.walk.specs.declared.Reason.TheVariants as reason
+use Rattle.walk.specs.declared.Reason.TheVariants.{Spent, Settled}
 use Rattle.walk.specs.declared.Walked.{Walked}
 
 -- (a - b)²
@@ -27,10 +32,6 @@ squares a b (suc k) = add binary64 (squares a b k) (squared (get_or a k nan) (ge
 unfoldable pub error_of : M2N → Five → Float
 unfolding squares
 error_of m n = squares m.moments (listed n) (min m.len 5)
-
--- the first five numbers of a list
-abbrev pub five_of : List Float → Five
-five_of l = record { m_1 = get_or l 0 nan; m_2 = get_or l 1 nan; m_3 = get_or l 2 nan; m_4 = get_or l 3 nan; m_5 = get_or l 4 nan }
 
 -- the state with other moments stored and another best fit
 abbrev pub with_fit : M2N → Five → Params → Float → M2N
@@ -68,30 +69,33 @@ unfoldable pub trail_of : M2N → Float → Float → List Step
 unfolding trail_from
 trail_of m μ p = trail_from (step_for m.variant m.moments) m.epsilon m.max_iter μ p
 
--- 3 where the last entry is inadmissible, otherwise 2
-abbrev pub stopped : List Step → ℕ
-stopped [] = 2
-stopped (Inadmissible ∷ t) = 3
+-- what stopped the walk before its limit: its last entry is inadmissible, or it settled
+abbrev pub stopped : List Step → Reason
+stopped [] = Settled
+stopped (Inadmissible ∷ t) = reason.Inadmissible
 stopped (Admitted r ∷ t) = stopped t
 
--- the reason: 1 whenever the count equals max_iter, otherwise whichever of 2 and 3 stopped it
-abbrev pub reason_of : ℕ → List Step → ℕ
-reason_of limit t = cond (eqb (length t) limit) 1 (stopped t)
+-- spent whenever the count equals max_iter, otherwise what stopped it
+abbrev pub reason_of : ℕ → List Step → Reason
+reason_of limit t = cond (eqb (length t) limit) Spent (stopped t)
 
 -- how many moments the variant's step reads
 abbrev pub needed_by : ℕ → ℕ
 needed_by variant = cond (eqb variant 1) 4 5
 
-abbrev pub later_refusal : ℕ → ℕ → Float → ℕ
-later_refusal len needed p = cond (ltb len needed) 1 (cond (ltb 16 len) 2 (cond (le nought p && lt p one) 0 7))
+abbrev pub later_refusal : ℕ → ℕ → Float → Result (Unit {0}) Refusal
+later_refusal len needed p =
+    cond (ltb len needed) (Err TooFewMoments)
+    (cond (ltb 16 len) (Err TooManyMoments)
+    (cond (le nought p && lt p one) (Ok tt) (Err BadWeight)))
 
--- the number of the refusal, 0 for none: 3, variant not 1 or 2; 1, fewer than 4 moments (variant 2: 5); 2, more than 16; 7, weight not at least 0 and below 1
-unfoldable pub walk_refusal : M2N → Float → ℕ
-walk_refusal m p = cond (not (eqb m.variant 1 || eqb m.variant 2)) 3 (later_refusal m.len (needed_by m.variant) p)
+-- variant not 1 or 2; fewer than 4 moments (variant 2: 5); more than 16; weight not at least 0 and below 1
+unfoldable pub walk_refusal : M2N → Float → Result (Unit {0}) Refusal
+walk_refusal m p = cond (not (eqb m.variant 1 || eqb m.variant 2)) (Err UnknownVariant) (later_refusal m.len (needed_by m.variant) p)
 
-abbrev pub answered : ℕ → M2N → M2N → List Step → Walked
-answered zero m kept t = record { state = kept; outcome = Ended (length t) (reason_of m.max_iter t) }
-answered (suc n) m kept t = record { state = m; outcome = Refused (suc n) }
+abbrev pub answered : Result (Unit {0}) Refusal → M2N → M2N → List Step → Walked
+answered (Ok u) m kept t = record { state = kept; outcome = Ok (record { count = length t; reason = reason_of m.max_iter t }) }
+answered (Err e) m kept t = record { state = m; outcome = Err e }
 
 unfoldable pub walk_of : M2N → Float → Float → Walked
 unfolding walk_refusal keep_all trail_of

@@ -2,13 +2,15 @@
 // step limit is reached. The best parameters met on the way are kept.
 #![tactic(auto)]
 
-ghost use Rattle.std.specs.Prelude.{◌≡◌, true, ◌≤◌, ◌<◌, min};
-ghost use Rattle.moments.specs.Figures.{listed};
-ghost use Rattle.walk.specs.Parts.{Turned, fit_after, reason_for, with_fit_of};
+ghost use Rattle.std.specs.Prelude.{◌≡◌, true, ◌≤◌, ◌<◌, min, Ok};
+ghost use Rattle.moments.specs.Figures.{five_of, listed};
+ghost use Rattle.walk.specs.Parts.{Turned, ended_after, fit_after, needed_for, with_fit_of};
+ghost use Rattle.walk.specs.Reasons.{number_of};
 ghost use Rattle.walk.specs.Trail.{step_for};
-ghost use Rattle.walk.specs.Walk.{five_of, later_refusal, squares, walk_of, walk_refusal};
+ghost use Rattle.walk.specs.Walk.{squares, walk_of, walk_refusal};
 
 use moments::{Five, Params};
+use refusal::Refusal;
 use step::Step;
 
 // The fit state: the target moments (the first `len` of 16), the settings, and the best fit so far.
@@ -49,35 +51,54 @@ struct Turn {
     seen: Seen,
 }
 
-// Refused by document 01's number; or ended after so many steps, for the reason 1 spent, 2 settled, 3
-// inadmissible.
+// Why a walk ended; each is document 01's number.
+#[derive(Clone, Copy, Debug, PartialEq, Eq)]
+pub enum Reason {
+    Spent = 1,
+    Settled = 2,
+    Inadmissible = 3,
+}
+
+impl From<Reason> for u64 {
+    ghost from_gives = { λ reason n. n ≡ number_of reason };
+
+    fn from(reason: Reason) -> u64
+        ensures { result ≡ number_of reason }
+    {
+        reason as u64
+    }
+}
+
+// After how many steps a walk ended, and why.
 #[derive(Clone, Copy)]
-pub enum Outcome {
-    Refused(u64),
-    Ended(usize, u64),
+pub struct Ended {
+    pub count: usize,
+    pub reason: Reason,
 }
 
 // The state after a walk, and how it went.
 #[derive(Clone, Copy)]
 pub struct Walked {
     pub state: M2N,
-    pub outcome: Outcome,
+    pub outcome: Result<Ended, Refusal>,
 }
 
 // The moments that a step reads.
 pub fn first_five(m: M2N) -> Five
     ensures { result ≡ five_of m.moments }
 {
+    let [m_1, m_2, m_3, m_4, m_5, ..] = m.moments;
     Five {
-        m_1: m.moments[0],
-        m_2: m.moments[1],
-        m_3: m.moments[2],
-        m_4: m.moments[3],
-        m_5: m.moments[4],
+        m_1,
+        m_2,
+        m_3,
+        m_4,
+        m_5,
     }
 }
 
-// The variant's step.
+// The variant's step. Document 01's state names it by a number, so it is looked up here and not handed
+// to the walk as a function.
 fn stepped(variant: usize, m: Five, mu_2: f64, p_1: f64) -> Step
     ensures { result ≡ step_for variant (listed m) mu_2 p_1 }
 {
@@ -109,93 +130,79 @@ fn fit_after(len: usize, a: Five, f: Fit, r: Params) -> Fit
     requires { 4 ≤ len }
     ensures { result ≡ fit_after len a f r }
 {
-    let n = moments::get_moments(r);
-    let e = error_of(len, a, n);
-    if e < f.error {
+    let new_moments = moments::get_moments(r);
+    let error = error_of(len, a, new_moments);
+    if error < f.error {
         return Fit {
-            new_moments: n,
+            new_moments,
             parameters: r,
-            error: e,
+            error,
         };
     }
-    let kept = f.parameters;
-    Fit {
-        new_moments: n,
-        parameters: kept,
-        error: f.error,
-    }
+    Fit { new_moments, ..f }
 }
 
 fn with_fit(m: M2N, f: Fit) -> M2N
     ensures { result ≡ with_fit_of m f }
 {
-    let moments = m.moments;
-    let new_moments = f.new_moments;
-    let parameters = f.parameters;
+    let Fit {
+        new_moments,
+        parameters,
+        error,
+    } = f;
     M2N {
-        moments: moments,
-        len: m.len,
-        epsilon: m.epsilon,
-        factor: m.factor,
-        n_runs: m.n_runs,
-        variant: m.variant,
-        max_iter: m.max_iter,
-        new_moments: new_moments,
-        parameters: parameters,
-        error: f.error,
+        new_moments,
+        parameters,
+        error,
+        ..m
     }
 }
 
-// Document 01's refusals of a walk, in its order; 0 for none.
-fn refusal(m: M2N, p_1: f64) -> u64
+// How many moments the variant's step reads.
+fn needed(variant: usize) -> Result<usize, Refusal>
+    ensures { result ≡ needed_for variant }
+{
+    match variant {
+        1 => Ok(4),
+        2 => Ok(5),
+        _ => Err(Refusal::UnknownVariant),
+    }
+}
+
+// Document 01's refusals of a walk, in its order.
+fn check(m: M2N, p_1: f64) -> Result<(), Refusal>
     ensures { result ≡ walk_refusal m p_1 }
 {
-    let variant = m.variant;
-    if variant == 1 {
-        return later_refusal(m.len, 4, p_1);
+    let needed = needed(m.variant)?;
+    if m.len < needed {
+        return Err(Refusal::TooFewMoments);
     }
-    if variant == 2 {
-        return later_refusal(m.len, 5, p_1);
+    if 16 < m.len {
+        return Err(Refusal::TooManyMoments);
     }
-    3
+    if 0.0 <= p_1 && p_1 < 1.0 {
+        return Ok(());
+    }
+    Err(Refusal::BadWeight)
 }
 
-// Those that come after the variant's.
-fn later_refusal(len: usize, needed: usize, p_1: f64) -> u64
-    ensures { result ≡ later_refusal len needed p_1 }
+// It is spent whenever the count equals the limit; otherwise the reason is what stopped it.
+fn ended_after(count: usize, max_iter: usize, stopped: Reason) -> Ended
+    ensures { result ≡ ended_after count max_iter stopped }
 {
-    if len < needed {
-        return 1;
-    }
-    if 16 < len {
-        return 2;
-    }
-    if 0.0 <= p_1 {
-        if p_1 < 1.0 {
-            return 0;
-        }
-    }
-    7
-}
-
-// The reason is 1 whenever the count equals the limit, otherwise what stopped the walk.
-fn reason(count: usize, max_iter: usize, stopped: u64) -> u64
-    ensures { result ≡ reason_for count max_iter stopped }
-{
-    if count == max_iter {
-        return 1;
-    }
-    stopped
+    let reason = if count == max_iter {
+        Reason::Spent
+    } else {
+        stopped
+    };
+    Ended { count, reason }
 }
 
 // Whether two numbers are one, bit for bit; a NaN is never.
 fn same(x: f64, y: f64) -> bool
     ensures { result ≡ true → x ≡ y }
 {
-    if x == y {
-        return f64::to_bits(x) == f64::to_bits(y);
-    }
-    false
+    x == y && x.to_bits() == y.to_bits()
 }
 
 // A walk that comes back to a pair it has seen goes round from there on, and going round changes
@@ -205,72 +212,60 @@ fn count_rounds(count: usize, max_iter: usize, mu: f64, p: f64, seen: Seen) -> T
     requires { (seen.at < count) × (count ≤ max_iter) }
     ensures { Turned count max_iter mu p seen result }
 {
-    if same(mu, seen.mu) {
-        if same(p, seen.p) {
-            let round = count - seen.at;
-            let to = count + (max_iter - count) / round * round;
-            return Turn {
-                count: to,
-                seen: Seen {
-                    mu: mu,
-                    p: p,
-                    at: to,
-                },
-            };
-        }
+    if same(mu, seen.mu) && same(p, seen.p) {
+        let round = count - seen.at;
+        let to = count + (max_iter - count) / round * round;
+        return Turn {
+            count: to,
+            seen: Seen { mu, p, at: to },
+        };
     }
     if seen.at <= count / 2 {
         return Turn {
-            count: count,
-            seen: Seen {
-                mu: mu,
-                p: p,
-                at: count,
-            },
+            count,
+            seen: Seen { mu, p, at: count },
         };
     }
-    Turn {
-        count: count,
-        seen: seen,
-    }
+    Turn { count, seen }
 }
 
-// The walk of a state that is not refused. `max_iter` is the budget.
+// The walk of a state that is not refused. `max_iter` is the budget. A turn may count whole rounds, so
+// the loop is no `for` over its turns.
 fn walk(m: M2N, mu_2: f64, p_1: f64) -> Walked
-    requires { 0 ≡ walk_refusal m p_1 }
+    requires { Ok tt ≡ walk_refusal m p_1 }
     ensures { result ≡ walk_of m mu_2 p_1 }
 {
     let a = first_five(m);
-    let max_iter = m.max_iter;
-    let new_moments = m.new_moments;
-    let parameters = m.parameters;
+    let M2N {
+        max_iter,
+        new_moments,
+        parameters,
+        error,
+        ..
+    } = m;
     let mut f = Fit {
-        new_moments: new_moments,
-        parameters: parameters,
-        error: m.error,
+        new_moments,
+        parameters,
+        error,
     };
     let mut mu = mu_2;
     let mut p = p_1;
     let mut count = 0;
-    let mut seen = Seen {
-        mu: mu_2,
-        p: p_1,
-        at: 0,
-    };
+    let mut seen = Seen { mu, p, at: 0 };
     while count < max_iter {
         let s = stepped(m.variant, a, mu, p);
         count += 1;
         let Step::Admitted(r) = s else {
             return Walked {
                 state: with_fit(m, f),
-                outcome: Outcome::Ended(count, reason(count, max_iter, 3)),
+                outcome: Ok(ended_after(count, max_iter, Reason::Inadmissible)),
             };
         };
         f = fit_after(m.len, a, f, r);
         if number::abs(p - r.p_1) < m.epsilon {
             return Walked {
                 state: with_fit(m, f),
-                outcome: Outcome::Ended(count, reason(count, max_iter, 2)),
+                outcome: Ok(ended_after(count, max_iter, Reason::Settled)),
             };
         }
         mu = r.mu_2;
@@ -281,7 +276,10 @@ fn walk(m: M2N, mu_2: f64, p_1: f64) -> Walked
     }
     Walked {
         state: with_fit(m, f),
-        outcome: Outcome::Ended(count, 1),
+        outcome: Ok(Ended {
+            count,
+            reason: Reason::Spent,
+        }),
     }
 }
 
@@ -289,11 +287,10 @@ fn walk(m: M2N, mu_2: f64, p_1: f64) -> Walked
 pub fn iterate_from(m: M2N, mu_2: f64, p_1: f64) -> Walked
     ensures { result ≡ walk_of m mu_2 p_1 }
 {
-    let n = refusal(m, p_1);
-    if n != 0 {
+    if let Err(refusal) = check(m, p_1) {
         return Walked {
             state: m,
-            outcome: Outcome::Refused(n),
+            outcome: Err(refusal),
         };
     }
     walk(m, mu_2, p_1)

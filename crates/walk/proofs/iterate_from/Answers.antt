@@ -2,5 +2,5 @@
 use Rattle.walk.proofs.Trails.{refused}
 use Rattle.walk.proofs.iterate_from.Goals as goal
 
-pub returns-then-n-ne0 : goal.returns-then-n-ne0
-returns-then-n-ne0 c = refused _ _ _ _ c.refusal-n.ensures c.if-n-ne0.true
+pub returns-in-Err : goal.returns-in-Err
+returns-in-Err c = refused _ _ _ _ c.in-Err.ensures

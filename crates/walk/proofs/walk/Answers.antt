@@ -14,7 +14,7 @@ pub returns-in_default : goal.returns-in_default
 returns-in_default c =
     let m = c.args.m in
     let h : c.loop-count.count < m.max_iter = omega arith in
-    turned_away m _ _ _ _ _ _ h (stepped_on _ m.moments _ _ _ _ _ c.first_five-a.ensures c.stepped-s.ensures c.in_default.is) c.with_fit.ensures c.reason.ensures
+    turned_away m _ _ _ _ _ _ h (stepped_on _ m.moments _ _ _ _ _ c.first_five-a.ensures c.stepped-s.ensures c.in_default.is) c.with_fit.ensures c.ended_after.ensures
     ∙ sym c.loop-count.invariant.1
 
 pub fit_after-f-requires : goal.fit_after-f-requires
@@ -25,7 +25,7 @@ returns-then-abs-m c =
     let m = c.args.m in
     let h : c.loop-count.count < m.max_iter = omega (arith, c.loop-count-test.true) in
     let a = c.first_five-a.ensures in
-    settles m _ _ _ _ _ _ _ _ h (stepped_on _ m.moments _ _ _ _ _ a c.stepped-s.ensures c.in-Admitted.is) (fit_on _ m.moments _ _ _ _ a c.fit_after-f.ensures) (settled_on _ _ _ _ true c.abs.ensures c.if-abs-m.true) c.with_fit-then-abs-m.ensures c.reason-then-abs-m.ensures
+    settles m _ _ _ _ _ _ _ _ h (stepped_on _ m.moments _ _ _ _ _ a c.stepped-s.ensures c.in-Admitted.is) (fit_on _ m.moments _ _ _ _ a c.fit_after-f.ensures) (settled_on _ _ _ _ true c.abs.ensures c.if-abs-m.true) c.with_fit-then-abs-m.ensures c.ended_after-then-abs-m.ensures
     ∙ sym c.loop-count.invariant.1
 
 pub count_rounds-t-requires : goal.count_rounds-t-requires
