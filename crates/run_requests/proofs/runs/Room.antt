@@ -1,11 +1,11 @@
 -- Several runs by the room for their rows: room for more than 64 is as good as room for 64. By the refusals in their order. Assumes nothing.
 use Prim.Native.Nat.{ℕ, ◌≤◌, min}
-use mathlib.Core.Path.{◌≡◌}
+use mathlib.Core.Path.{◌≡◌, ◌∙◌}
 use mathlib.Core.List.{List, ◌++◌, append_assoc}
 use native.Mathlib.Omega.{arith}
 use lib.Ieee.{Float}
-use lib.ListN.{length, take}
-use lib.Seq.{take-append_seam}
+use lib.ListN.{drop, length, length-append, length-drop, take}
+use lib.Seq.{length-take-le, take-append_seam}
 use Rattle.std.proofs.Common.{Ok}
 use Rattle.std.proofs.lemmas.Bool.Decides.{nat_tests}
 use Rattle.walk.specs.declared.M2N.{M2N}
@@ -19,18 +19,28 @@ module _ (m : M2N) (ws : List Float) (room : ℕ) where
   unfolding runs_refusal
   refused_in = grind (arith, nat_tests)
 
-  pub rows_in : run_rows m ws (min room 64) ≡ run_rows m ws room
+  rows_in : run_rows m ws (min room 64) ≡ run_rows m ws room
   unfolding run_rows
   rows_in = rw refused_in
 
-  pub fit_in : mp_fit m ws (min room 64) ≡ mp_fit m ws room
+  fit_in : mp_fit m ws (min room 64) ≡ mp_fit m ws room
   unfolding mp_fit
-  fit_in = rw (refused_in, rows_in)
-
-  -- the rows, in front of the lent ones
-  pub rows_front : (lent rest : List FitResultRow) → length lent ≡ min room 64 → take (length (run_rows m ws room)) (mp_rows m ws lent ++ rest) ≡ run_rows m ws room
-  unfolding mp_rows
-  rows_front lent rest e = rw (e, rows_in, append_assoc (run_rows m ws room)) (take-append_seam _ _)
+  fit_in = rw (rows_in, refused_in)
 
   pub few : (n : ℕ) → mp_fit m ws room ≡ Ok n → (n ≤ room) × (n ≤ 64)
   few n e = rw (← count_is m ws room n e) (few_rows m ws room)
+
+  -- of 64 rows the first k are lent
+  module _ (rows : List FitResultRow) (k : ℕ) (long : length rows ≡ 64) (is : k ≡ min room 64) where
+    lent : length (take k rows) ≡ min room 64
+    lent = length-take-le k rows (omega arith) ∙ is
+
+    pub fit_lent : mp_fit m ws (length (take k rows)) ≡ mp_fit m ws room
+    fit_lent = rw lent fit_in
+
+    pub all_rows : (after : List FitResultRow) → length after ≡ length (take k rows) → length (after ++ drop k rows) ≡ 64
+    all_rows after e = omega (arith, length-append after (drop k rows), length-drop k rows, lent, e)
+
+    pub rows_lent : (n : ℕ) → mp_fit m ws room ≡ Ok n → take n (mp_rows m ws (take k rows) ++ drop k rows) ≡ run_rows m ws room
+    unfolding mp_rows
+    rows_lent n e = rw (← count_is m ws room n e, lent, rows_in, append_assoc (run_rows m ws room)) (take-append_seam _ _)
