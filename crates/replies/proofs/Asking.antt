@@ -9,6 +9,9 @@ use Rattle.std.specs.Prelude.{Some, None}
 use Rattle.text.specs.Bytes.{bytes}
 use Rattle.text.specs.Decode.{Got, got, bad, ◌▷◌, word}
 use Rattle.protocol.specs.Words.{only, words_after}
+use Rattle.protocol_lists.specs.Lists.{a_list, list_of}
+use Rattle.protocol_lists.proofs.Listing.{list_got, no_list}
+use Rattle.replies.specs.Requests.{only_or}
 
 -- the last word, where nothing follows it
 module _ {A : Type 0} where
@@ -21,6 +24,18 @@ module _ {A : Type 0} where
   only_none f (got x []) e = cc
   only_none f (got x (b ∷ s)) e = refl
   only_none f bad e = refl
+
+  pub only_old : {B : Type 0} (f : A → B) (old : B) (g : Got A) → None ≡ only g → old ≡ only_or old (g ▷ (λ a s. got (f a) s))
+  only_old f old (got x []) e = cc
+  only_old f old (got x (b ∷ s)) e = refl
+  only_old f old bad e = refl
+
+  -- where the last is a list, as it was read
+  pub only_list : {B : Type 0} (form : List ℕ → Got A) (f : List A → B) (s : List ℕ) (g : Got ℕ) → list_of form s ≡ g → None ≡ only g
+      → None ≡ only (a_list form s ▷ (λ v t. got (f v) t))
+  only_list form f s (got n []) is e = cc
+  only_list form f s (got n (b ∷ t)) is e = rw (list_got form n s (b ∷ t) is) refl
+  only_list form f s bad is e = rw (no_list form s is) refl
 
 -- ---- a line that begins with a name is the name and what follows it
 abbrev left : List ℕ → Got (Unit {0})

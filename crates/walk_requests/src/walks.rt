@@ -55,7 +55,7 @@ fn reply(walked: Walked) -> Reply
 }
 
 // What a STATE says of a state.
-fn state_in(m: M2N) -> State
+pub fn state_in(m: M2N) -> State
     ensures { result ≡ state_in m }
 {
     State {
