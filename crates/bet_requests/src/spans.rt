@@ -23,6 +23,7 @@ pub fn answer(s: &[u8], xs: &mut [f64]) -> Option<Reply>
     None
 }
 
+// What is asked for. An enum, since the contracts say by it which definition answers.
 #[derive(Clone, Copy)]
 enum Kind {
     ConcurrentSides,
@@ -46,6 +47,7 @@ fn request(kind: Kind, size: usize, s: &[u8], xs: &mut [f64]) -> Option<Reply>
         × (xs.new ≡ only_or xs.old (words (left_by kind xs.old) size s.now)) }
 {
     let (room, s) = protocol::read_next_natural(s, u64::MAX)?;
+    // What is left is part of the line, so this is its place. Saturating, it asks for no proof of that.
     let from = size.saturating_sub(s.len());
     let mut starts = [0i64; 4096];
     let (n_starts, s) = protocol_lists::read_next_list(s, &mut starts)?;

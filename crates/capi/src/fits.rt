@@ -20,7 +20,7 @@ fn leave_row(best: Option<FitResultRow>, row: &mut [f64]) -> usize
 {
     match best {
         Some(r) => {
-            r.put_flat(row, 0);
+            row[..6].copy_from_slice(&<[f64; 6]>::from(r));
             1
         }
         None => 0,

@@ -1,13 +1,16 @@
--- Numbers of a list by their place. Assumes nothing.
+-- The first numbers of a list, by their place. Assumes nothing.
 use mathlib.Core.Path.{◌≡◌, refl}
 use mathlib.Core.List.{List, [], ◌∷◌}
 use Prim.Native.Nat.{ℕ, zero, suc, ◌<◌}
 use native.Mathlib.Omega.{arith}
-use lib.ListN.{length, get_or}
-use lib.Ieee.{Float}
+use lib.ListN.{get_or}
+use lib.Ieee.{Float, nan}
+use Rattle.float.specs.Constants.{nought}
+use Rattle.std.proofs.lemmas.List.{get_or-replicate}
+use Rattle.capi_states.specs.States.{at, first}
 
--- within a list it does not matter what stands for a number past its end
-pub get_d_within : (l : List Float) (i : ℕ) (d e : Float) → i < length l → get_or l i d ≡ get_or l i e
-get_d_within [] i d e h = absurd (omega arith)
-get_d_within (x ∷ l) zero d e h = refl
-get_d_within (x ∷ l) (suc i) d e h = get_d_within l i d e (omega arith)
+pub first_at : (n : ℕ) (l : List Float) (i : ℕ) → i < n → get_or (first n l) i nan ≡ at l i
+first_at zero l i h = absurd (omega arith)
+first_at (suc n) [] i h = get_or-replicate (suc n) i nought nan h
+first_at (suc n) (x ∷ l) zero h = refl
+first_at (suc n) (x ∷ l) (suc i) h = first_at n l i (omega arith)

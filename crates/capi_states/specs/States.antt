@@ -1,7 +1,7 @@
 -- The fit state as flat numbers, as a C program holds it. Definitions only.
-use Rattle.std.specs.Prelude.{List, [], ◌∷◌, ℕ, length, get_or, set, Float}
+use Rattle.std.specs.Prelude.{List, ◌∷◌, ◌++◌, ℕ, length, get_or, take, drop, replicate, Float}
 use Rattle.float.specs.Constants.{nought}
-use Rattle.moments.specs.declared.Five.{Five}
+use Rattle.moments.specs.Figures.{listed, params_listed}
 use Rattle.moments.specs.declared.Params.{Params}
 use Rattle.walk.specs.declared.M2N.{M2N}
 
@@ -9,15 +9,14 @@ use Rattle.walk.specs.declared.M2N.{M2N}
 abbrev pub at : List Float → ℕ → Float
 at l i = get_or l i nought
 
--- the first 16 numbers, zeros where there are fewer
-abbrev pub sixteen : List Float → List Float
-sixteen l =
-    at l 0 ∷ at l 1 ∷ at l 2 ∷ at l 3 ∷ at l 4 ∷ at l 5 ∷ at l 6 ∷ at l 7 ∷ at l 8 ∷ at l 9 ∷ at l 10 ∷ at l 11 ∷ at l 12 ∷ at l 13 ∷ at l 14 ∷ at l 15 ∷ []
+-- the first n numbers, zeros where there are fewer
+abbrev pub first : ℕ → List Float → List Float
+first n l = take n l ++ drop (length l) (replicate n nought)
 
 -- a fit state from flat numbers: mu_1, mu_2, sigma_1, sigma_2, p_1, error, epsilon, then new_moments, five
 abbrev pub state_of : List Float → ℕ → Float → ℕ → ℕ → List Float → M2N
 state_of moments variant factor max-iter n-runs fit = record {
-  moments = sixteen moments;
+  moments = first 16 moments;
   len = length moments;
   epsilon = at fit 6;
   factor = factor;
@@ -29,12 +28,12 @@ state_of moments variant factor max-iter n-runs fit = record {
   error = at fit 5;
 }
 
--- the flat numbers with a state put into them
-abbrev pub with_params : List Float → Params → List Float
-with_params l p = set (set (set (set (set l 0 p.mu_1) 1 p.mu_2) 2 p.sigma_1) 3 p.sigma_2) 4 p.p_1
+-- the flat numbers with others put into their front, as far as there are places
+abbrev pub with_front : List Float → List Float → List Float
+with_front l numbers = take (length l) numbers ++ drop (length numbers) l
 
-abbrev pub with_moments : List Float → Five → List Float
-with_moments l m = set (set (set (set (set l 7 m.m_1) 8 m.m_2) 9 m.m_3) 10 m.m_4) 11 m.m_5
+abbrev pub with_params : List Float → Params → List Float
+with_params l p = with_front l (params_listed p)
 
 abbrev pub with_state : List Float → M2N → List Float
-with_state l m = with_moments (set (set (with_params l m.parameters) 5 m.error) 6 m.epsilon) m.new_moments
+with_state l m = with_front l (params_listed m.parameters ++ m.error ∷ m.epsilon ∷ listed m.new_moments)

@@ -1,6 +1,5 @@
 -- Several runs (the Rust's mp_fit): each starts from a copy of the state and takes the next weights. Definitions only.
-use Rattle.std.specs.Prelude.{List, [], ◌∷◌, ◌++◌, ℕ, zero, suc, ◌+◌, ◌*◌, ◌-◌, ◌≤◌, length, take, drop, get_or, replicate, Float, Option, Some, None, Result, Ok, Err}
-use Rattle.std.specs.Float.{nan}
+use Rattle.std.specs.Prelude.{List, [], ◌∷◌, ◌++◌, ℕ, zero, suc, ◌*◌, ◌-◌, ◌≤◌, length, drop, replicate, Float, Option, Some, None, Result, Ok, Err}
 use Rattle.float.specs.Constants.{nought}
 use Rattle.refusal.specs.Numbers.{unless_refused}
 use Rattle.refusal.specs.declared.Refusal.{Refusal}

@@ -23,7 +23,7 @@ fn put(numbers: &mut [f64], count: usize, o: Result<Option<FitResultRow>, Refusa
     let Ok(Some(row)) = o else {
         return count;
     };
-    row.put_flat(numbers, count);
+    numbers[6 * count..6 * count + 6].copy_from_slice(&<[f64; 6]>::from(row));
     count + 1
 }
 

@@ -36,15 +36,12 @@ pub(crate) fn begin(m: M2N, epsilon: f64) -> M2N
 }
 
 // A centred moment of the state's raw ones.
+#[tactic(auto, using(crate::proofs::Known::unrefused))]
 pub(crate) fn centred(m: M2N, order: usize) -> f64
     requires { order ≤ 16 }
     ensures { result ≡ centred_sum m.moments order }
 {
-    let c = moments::centered_moment(&m.moments, order);
-    match c {
-        Ok(x) => x,
-        Err(_) => 0.0,
-    }
+    moments::centered_moment(&m.moments, order).unwrap()
 }
 
 // The inner fit of a search about the mean: five centred moments, the first set to 0.
@@ -77,6 +74,7 @@ fn moved_back(m: M2N, p: Params) -> Params
 }
 
 // The error of parameters, against at most five of the state's moments.
+#[tactic(auto, using(crate::proofs::Sums::error_is))]
 fn moment_error(m: M2N, p: Params) -> f64
     ensures { result ≡ error_of m (get_moments p) }
 {

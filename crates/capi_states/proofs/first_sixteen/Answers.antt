@@ -1,5 +1,0 @@
--- `capi_states::first_sixteen` meets its contract: by what each call ensures. Assumes nothing.
-use Rattle.capi_states.proofs.first_sixteen.Goals as goal
-
-pub returns : goal.returns
-returns c = rw (c.number_at.ensures, c.number_at-2.ensures, c.number_at-3.ensures, c.number_at-4.ensures, c.number_at-5.ensures, c.number_at-6.ensures, c.number_at-7.ensures, c.number_at-8.ensures, c.number_at-9.ensures, c.number_at-10.ensures, c.number_at-11.ensures, c.number_at-12.ensures, c.number_at-13.ensures, c.number_at-14.ensures, c.number_at-15.ensures, c.number_at-16.ensures)
