@@ -10,6 +10,7 @@ const LIST: usize = 16384;
 // Answers that wait are written when a chunk is done, or when the next answer might lack room.
 const ROOM: usize = 262144;
 
+// The line that comes in, and the answers that wait to be written.
 #[derive(Drop)]
 pub(crate) struct Lines {
     // the bytes of the current line, and how many have come: None if more than a line may have
@@ -53,7 +54,7 @@ impl Lines {
         self.flush(rt)
     }
 
-    // How many bytes of the line have come with some more.
+    // Takes more bytes into the line, and answers how many it has then: None where they are too many.
     fn extend(&mut self, more: &[u8]) -> Option<usize> {
         let len = self.len?;
         let end = len.checked_add(more.len())?;

@@ -23,6 +23,7 @@ pub fn answer(s: &[u8], xs: &mut [f64]) -> Option<Reply>
     None
 }
 
+// What is asked for. An enum, since the contracts say by it which definition answers.
 #[derive(Clone, Copy)]
 enum Kind {
     ConcurrentSides,

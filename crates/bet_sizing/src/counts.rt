@@ -9,13 +9,14 @@ ghost use Rattle.bet_sizing.specs.Refusals.{ConcurrentSides};
 use crate::{refusals, sorting};
 use refusal::Refusal;
 
+// A span is long where its number is above 0, and short otherwise.
 #[derive(Clone, Copy, Debug, PartialEq, Eq)]
 pub enum Side {
     Long,
     Short,
 }
 
-// Whether a number stands for the side.
+// Whether a span's number puts it on the side.
 fn on_side(side: Side, number: f64) -> bool
     ensures { result ≡ on_side side number }
 {

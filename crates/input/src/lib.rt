@@ -15,6 +15,7 @@ pub fn read_full<R: Read>(from: &mut R, buf: &mut [u8]) -> io::Result<usize>
     ensures ended { IfOk result (λ n. n < length buf.new → IsAtEnd (R.remaining from.new)) }
 {
     let mut at = 0;
+    // no `for`: how much each read brings is not known before
     while at < buf.len() {
         let n = from.read(&mut buf[at..])?;
         if n == 0 {

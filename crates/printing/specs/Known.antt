@@ -9,7 +9,6 @@ use Rattle.text.specs.Decode.{instant, natural, nibble, numeral, word}
 use Rattle.text.specs.Print.{decimal, hex, shown, width}
 use Rattle.refusal.specs.declared.Refusal.TheVariants.{TooFewWeights}
 use Rattle.protocol_lists.specs.Lists.{values_of}
-use Rattle.refusal.specs.declared.Refusal.TheVariants.{TooFewWeights}
 use Rattle.replies.specs.declared.forms.Reply as reply
 use Rattle.printing_values.specs.Rows.{rows_from}
 use Rattle.printing_values.specs.Texts.{fractions}

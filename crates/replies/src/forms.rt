@@ -30,7 +30,7 @@ pub struct SpanRows {
     pub starts: usize,
 }
 
-// The reply to a request; a line that is none has no reply.
+// The reply to a request; a line that is no request has none.
 #[derive(Clone, Copy)]
 pub enum Reply {
     Refused(Refusal),

@@ -1,15 +1,14 @@
 -- A kind that replies leaves alone what other kinds leave in the lent list: to a line that begins with one of their names it has no reply. By cases on whether the line does. Assumes nothing.
 use Prim.Native.Nat.{ℕ}
 use Prim.Native.String.{String}
-use mathlib.Core.Path.{◌≡◌, refl, sym, ◌∙◌, ap}
-use mathlib.Core.Bool.{Bool, true, false, cond}
-use mathlib.Core.List.{List, [], ◌∷◌, ◌++◌}
-use borrow.Author.Tests.{eqb-true}
-use lib.Dec.{eqb}
+use mathlib.Core.Path.{◌≡◌, refl, ◌∙◌}
+use mathlib.Core.List.{List, ◌++◌}
 use lib.Ieee.{Float}
 use Rattle.std.specs.Prelude.{Option, Some, None}
 use Rattle.text.specs.Bytes.{bytes}
-use Rattle.text.specs.Decode.{Got, got, bad, ◌▷◌, word}
+use Rattle.text.specs.Decode.{Got, got, bad, word}
+use Rattle.protocol.specs.Words.{words_after}
+use Rattle.replies.proofs.Asking.{by_name}
 use Rattle.replies.specs.Requests.{after, from_words}
 use Rattle.replies.specs.declared.forms.Reply.{Reply}
 use Rattle.moment_requests.specs.Orders.{orders_in}
@@ -22,34 +21,18 @@ use Rattle.search_requests.specs.Searches.{searches}
 use Rattle.price_requests.specs.Curves.{curves}
 use Rattle.requests.specs.Lines.{of_fits, of_numbers}
 
--- a line that begins with a word is the word and what follows it
-module _ (c b : ℕ) (w s : List ℕ) (u : Unit {0}) (t : List ℕ) where
-  by_byte : (is : Bool) → eqb b c ≡ is → (word w s ≡ got u t → s ≡ w ++ t) → cond is (word w s) bad ≡ got u t → b ∷ s ≡ c ∷ (w ++ t)
-  by_byte true e more h = let same = eqb-true b c e in cc (more h)
-  by_byte false e more h = cc
-
-begun : (w s : List ℕ) (u : Unit {0}) (t : List ℕ) → word w s ≡ got u t → s ≡ w ++ t
-unfolding word
-begun [] s u t h = cc
-begun (c ∷ w) [] u t h = cc
-begun (c ∷ w) (b ∷ s) u t h = by_byte c b w s u t (eqb b c) refl (begun w s u t) h
-
 module _ (kind : List ℕ → Option Reply) (s : List ℕ) (r : Reply) (replies : Some r ≡ kind s) where
-  -- to a line that begins with the word w the kind has no reply
+  -- to a line that begins with the name w the kind has no reply
   abbrev No : List ℕ → Type 0
-  No w = (t : List ℕ) → kind (w ++ t) ≡ None
+  No w = (t : List ℕ) → None ≡ kind (w ++ t)
 
-  module _ {A : Type 0} (rest : List ℕ → A) (x : A) where
-    by_word : (w : List ℕ) (g : Got (Unit {0})) → word w s ≡ g → No w
-        → x ≡ from_words (g ▷ (λ u words. word (bytes " ") words ▷ (λ v t. got tt words))) rest x
-    by_word w (got u t) e none =
-        let is : kind s ≡ kind (w ++ t) = ap kind (begun w s u t e) in
-        let no : kind (w ++ t) ≡ None = none t in
-        cc
-    by_word w bad e none = refl
+  module _ {A : Type 0} (rest : List ℕ → A) (x : A) (name : String) (none : No (bytes name)) where
+    by_words : (g : Got (Unit {0})) → words_after (bytes name) s ≡ g → x ≡ from_words g rest x
+    by_words (got u t) e = let no : None ≡ kind s = by_name kind (bytes name) s t e none in cc
+    by_words bad e = refl
 
-    other : (name : String) → No (bytes name) → x ≡ after name rest s x
-    other name none = by_word (bytes name) (word (bytes name) s) refl none
+    other : x ≡ after name rest s x
+    other = by_words (words_after (bytes name) s) refl
 
   no_orders : (xs : List Float) → No (bytes "raw_moment") → xs ≡ orders_in xs s
   no_orders xs none = other _ xs "raw_moment" none

@@ -1,5 +1,6 @@
 // Which kind of request a line is. A kind to which the line does not belong has no reply, and the
-// next is asked. Answers that are lists are left in xs.
+// next is asked. Answers that are lists are left in xs. The kinds are asked by `if let`: of a closure
+// that it does not call, `or_else` does not say that it leaves xs alone.
 #![tactic(auto)]
 
 ghost use Rattle.std.specs.Prelude.{◌≡◌, length};

@@ -10,7 +10,8 @@ ghost use Rattle.sheet_read.specs.declared.SheetError.TheVariants.{Refused};
 
 use refusal::Refusal;
 
-// Why a sheet is turned away: as other calls are, or by a line that is no span form.
+// Why a sheet is turned away: as other calls are, or by a line that is no span form. For that there is a
+// case of its own, so that `Refused` never holds `NotASpan`.
 #[derive(Clone, Copy, Debug, PartialEq, Eq)]
 pub enum SheetError {
     Refused(Refusal),
@@ -37,6 +38,7 @@ fn check(s: &[u8]) -> Result<usize, SheetError>
     }
     let mut rest = s;
     let mut n = 0;
+    // no `for`: where a line ends is known when it is read
     while !rest.is_empty() {
         let Some((_, after)) = sheet_forms::read_line(rest) else {
             return Err(SheetError::NotASpan { line: n + 1 });

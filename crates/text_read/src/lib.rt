@@ -46,6 +46,7 @@ fn read_digits(s: &[u8], first: u64, limit: u64) -> Option<(u64, &[u8])>
 {
     let mut value = first;
     let mut rest = s;
+    // no `for`: the bytes left after the last digit are answered
     while let Some((b, after)) = rest.split_first() {
         let Some(digit) = digit_of(*b, 10) else {
             break;

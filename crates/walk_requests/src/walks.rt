@@ -54,7 +54,7 @@ fn reply(walked: Walked) -> Reply
     }
 }
 
-// What a STATE says of a state.
+// What a STATE of docs/REQUESTS.md holds of a state.
 pub fn state_in(m: M2N) -> State
     ensures { result ≡ state_in m }
 {

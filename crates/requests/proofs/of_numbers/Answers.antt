@@ -5,8 +5,8 @@ use Rattle.requests.proofs.of_numbers.Goals as goal
 
 pub returns-in-Some : goal.returns-in-Some
 unfolding of_numbers
-returns-in-Some c = let is = c.in-Some.ensures in (rw (← is), by_leaves _ _ is)
+returns-in-Some c = (rw (← c.in-Some.ensures), by_leaves _ _ c.in-Some.ensures)
 
 pub returns : goal.returns
 unfolding of_numbers
-returns c = let a = c.answer.ensures in (rw (← c.not-Some.ensures) a.0, a.1)
+returns c = rw (← c.in_default.ensures) c.answer-2.ensures
