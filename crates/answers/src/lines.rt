@@ -1,136 +1,92 @@
 // Lines out of a stream of bytes that comes in chunks, each answered when its newline comes.
-use replies::Reply;
 use std::io;
 
-// How many bytes of the current line have come, whether it has more than a line may have, how many
-// bytes of answers wait in `out`, and whether the input is over.
-#[derive(Clone, Copy)]
-pub(crate) struct State {
-    pub(crate) len: usize,
-    pub(crate) long: bool,
-    pub(crate) at: usize,
-    pub(crate) over: bool,
-}
+// A line has 65,536 bytes at most, its newline counted.
+const LINE: usize = 65535;
 
-pub(crate) fn begin() -> State {
-    State {
-        len: 0,
-        long: false,
-        at: 0,
-        over: false,
-    }
-}
+// An answer that is a list has at most so many fractions.
+const LIST: usize = 16384;
 
 // Answers that wait are written when a chunk is done, or when the next answer might lack room.
 const ROOM: usize = 262144;
 
-fn flush(rt: &impl Print, out: &[u8], at: usize) -> io::Result<()> {
-    if at <= out.len() {
-        return rt.write_all(&out[..at]);
-    }
-    Ok(())
+// The line that comes in, and the answers that wait to be written.
+#[derive(Drop)]
+pub(crate) struct Lines {
+    // the bytes of the current line, and how many have come: None if more than a line may have
+    line: [u8; LINE],
+    len: Option<usize>,
+    // the fractions of an answer that is a list
+    list: [f64; LIST],
+    // the answers that wait, and how many bytes they have
+    out: [u8; 2 * ROOM],
+    at: usize,
 }
 
-fn place(rt: &impl Print, out: &[u8], at: usize) -> io::Result<usize> {
-    if at <= ROOM {
-        return Ok(at);
+impl Lines {
+    pub(crate) fn new() -> Lines {
+        Lines {
+            line: [0; LINE],
+            len: Some(0),
+            list: [0.0; LIST],
+            out: [0; 2 * ROOM],
+            at: 0,
+        }
     }
-    flush(rt, out, at)?;
-    Ok(0)
-}
 
-fn reply_to(line: &[u8], xs: &mut [f64], s: State) -> Reply {
-    let n = s.len;
-    if s.long {
-        return Reply::Bad;
+    pub(crate) fn take_in(&mut self, rt: &impl Print, chunk: &[u8]) -> io::Result<()> {
+        for piece in chunk.split_inclusive(|b| *b == b'\n') {
+            if let Some(end) = piece.strip_suffix(b"\n") {
+                self.len = self.extend(end);
+                self.answer(rt)?;
+            } else {
+                self.len = self.extend(piece);
+            }
+        }
+        self.flush(rt)
     }
-    if line.len() < n {
-        return Reply::Bad;
-    }
-    requests::answer(&line[..n], xs)
-}
 
-// The line is whole.
-fn answer(
-    rt: &impl Print,
-    line: &[u8],
-    xs: &mut [f64],
-    out: &mut [u8],
-    s: State,
-) -> io::Result<State> {
-    let at = place(rt, out, s.at)?;
-    let r = reply_to(line, xs, s);
-    let to = printing::put(out, at, r, line, xs);
-    Ok(State {
-        len: 0,
-        long: false,
-        at: to,
-        over: false,
-    })
-}
+    // A last line with no newline is no request.
+    pub(crate) fn end(&mut self, rt: &impl Print) -> io::Result<()> {
+        if self.len != Some(0) {
+            self.at = printing::put_bad(&mut self.out, self.at);
+        }
+        self.flush(rt)
+    }
 
-fn take_byte(
-    rt: &impl Print,
-    b: u8,
-    line: &mut [u8],
-    xs: &mut [f64],
-    out: &mut [u8],
-    s: State,
-) -> io::Result<State> {
-    if b == 10 {
-        return answer(rt, line, xs, out, s);
+    // Takes more bytes into the line, and answers how many it has then: None where they are too many.
+    fn extend(&mut self, more: &[u8]) -> Option<usize> {
+        let len = self.len?;
+        let end = len.checked_add(more.len())?;
+        self.line.get_mut(len..end)?.copy_from_slice(more);
+        Some(end)
     }
-    let n = s.len;
-    if n < line.len() {
-        line[n] = b;
-        return Ok(State {
-            len: n + 1,
-            long: s.long,
-            at: s.at,
-            over: false,
-        });
-    }
-    Ok(State {
-        len: n,
-        long: true,
-        at: s.at,
-        over: false,
-    })
-}
 
-pub(crate) fn take_in(
-    rt: &impl Print,
-    chunk: &[u8],
-    line: &mut [u8],
-    xs: &mut [f64],
-    out: &mut [u8],
-    s: State,
-) -> io::Result<State> {
-    let mut t = s;
-    let mut i = 0;
-    while i < chunk.len() {
-        t = take_byte(rt, chunk[i], line, xs, out, t)?;
-        i += 1;
+    // The line is whole.
+    fn answer(&mut self, rt: &impl Print) -> io::Result<()> {
+        if self.at > ROOM {
+            self.flush(rt)?;
+        }
+        self.at = self.put_answer();
+        self.len = Some(0);
+        Ok(())
     }
-    flush(rt, out, t.at)?;
-    Ok(State {
-        len: t.len,
-        long: t.long,
-        at: 0,
-        over: false,
-    })
-}
 
-// A last line with no newline is no request.
-pub(crate) fn end(rt: &impl Print, out: &mut [u8], s: State) -> io::Result<State> {
-    if 0 < s.len {
-        let to = printing::put_bad(out, 0);
-        flush(rt, out, to)?;
+    // Puts the answer to the line, and answers the place after it.
+    fn put_answer(&mut self) -> usize {
+        let Some(line) = self.len.and_then(|n| self.line.get(..n)) else {
+            return printing::put_bad(&mut self.out, self.at);
+        };
+        let r = requests::answer(line, &mut self.list);
+        printing::put(&mut self.out, self.at, r, line, &self.list)
     }
-    Ok(State {
-        len: 0,
-        long: false,
-        at: 0,
-        over: true,
-    })
+
+    // Writes the answers that wait.
+    fn flush(&mut self, rt: &impl Print) -> io::Result<()> {
+        if let Some(waiting) = self.out.get(..self.at) {
+            rt.write_all(waiting)?;
+        }
+        self.at = 0;
+        Ok(())
+    }
 }

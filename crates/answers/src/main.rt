@@ -5,59 +5,26 @@
 
 mod lines; // lines.rt: lines out of a stream of bytes
 
-use lines::State;
+use lines::Lines;
 use std::io;
 use std::io::Read;
 
-// Reads once and takes in what came. At the end of the input, what is left is no line.
-fn serve(
-    rt: &HostRuntime,
-    line: &mut [u8],
-    xs: &mut [f64],
-    out: &mut [u8],
-    s: State,
-) -> io::Result<State> {
-    let mut chunk = [0u8; 65536];
+// Reads once and takes in what came, and answers how many bytes did: 0 at the end of the input.
+fn serve(rt: &HostRuntime, lines: &mut Lines) -> io::Result<usize> {
+    let mut chunk = [0; 65536];
     let n = rt.stdin().read(&mut chunk)?;
-    if n == 0 {
-        return lines::end(rt, out, s);
-    }
-    lines::take_in(rt, &chunk[..n], line, xs, out, s)
+    lines.take_in(rt, &chunk[..n])?;
+    Ok(n)
 }
 
-// A proved loop has to end, and nothing says that the input does. So the loop counts its turns
-// down, from a number that no run uses up.
-fn serve_all(rt: &HostRuntime, line: &mut [u8], xs: &mut [f64], out: &mut [u8]) -> io::Result<()> {
-    let mut s = lines::begin();
-    let mut turns = u64::MAX;
-    while turns > 0 {
-        s = serve(rt, line, xs, out, s)?;
-        if s.over {
-            turns = 0;
-        } else {
-            turns -= 1;
+// A proved loop has to end, and nothing says that the input does. So it goes round a number of
+// times that no run uses up.
+fn main(rt: HostRuntime) -> io::Result<()> {
+    let mut lines = Lines::new();
+    for _ in 0..u64::MAX {
+        if serve(&rt, &mut lines)? == 0 {
+            break;
         }
     }
-    Ok(())
-}
-
-// A line has 65,536 bytes at most, its newline counted.
-fn line_room() -> [u8; 65535] {
-    [0u8; 65535]
-}
-
-// An answer that is a list of fractions.
-fn list_room() -> [f64; 16384] {
-    [0.0f64; 16384]
-}
-
-fn out_room() -> [u8; 524288] {
-    [0u8; 524288]
-}
-
-fn main(rt: HostRuntime) -> io::Result<()> {
-    let mut line = line_room();
-    let mut xs = list_room();
-    let mut out = out_room();
-    serve_all(&rt, &mut line, &mut xs, &mut out)
+    lines.end(&rt)
 }

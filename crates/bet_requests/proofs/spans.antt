@@ -1,3 +1,2 @@
 -- Laws of the module `spans`.
-pub mod Asking
 pub mod Columns

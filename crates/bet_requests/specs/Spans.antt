@@ -1,16 +1,21 @@
 -- The requests of the counts and the budget over spans: their words, the reply to a line, and what the lent list holds after it. Definitions only.
-use Rattle.std.specs.Prelude.{ℕ, ◌-◌, ◌/◌, ◌^◌, min, Bool, true, false, cond, List, ◌++◌, ℤ, Float, drop, length, take}
+use Rattle.std.specs.Prelude.{ℕ, ◌-◌, ◌/◌, ◌^◌, min, Option, None, Result, List, ◌++◌, ℤ, Float, drop, length, take}
 use Rattle.budget.specs.Budget.{budget_sizes}
+use Rattle.bet_sizing.specs.declared.counts.Side.TheVariants.{Long, Short}
 use Rattle.bet_sizing.specs.Counts.{concurrent_counts}
-use Rattle.bet_sizing.specs.Refusals.{list_after, outcome, spans_refusal}
-use Rattle.bet_sizing.specs.declared.Outcome.{Outcome}
-use Rattle.bet_sizing.specs.declared.Outcome.TheVariants.{Unwritten, Written}
+use Rattle.bet_sizing.specs.Refusals.{list_after, spans_refusal}
+use Rattle.refusal.specs.Numbers.{unless_refused}
+use Rattle.refusal.specs.declared.Refusal.{Refusal}
 use Rattle.text.specs.Decode.{Got, got}
 use Rattle.protocol.specs.Words.{next_natural}
 use Rattle.protocol_lists.specs.Lists.{fraction_list, instant_list}
-use Rattle.replies.specs.Requests.{◌>>=◌, after, named, only_or, reply}
+use Rattle.replies.specs.Requests.{◌>>=◌, after, named, only_or, or_refused, reply}
 use Rattle.replies.specs.declared.forms.Reply.{Reply}
-use Rattle.replies.specs.declared.forms.Reply.TheVariants.{Bad, Refused, Spanned}
+use Rattle.replies.specs.declared.forms.Reply.TheVariants.{Spanned}
+use Rattle.replies.specs.declared.forms.SpanRows.{SpanRows}
+use Rattle.bet_requests.specs.declared.spans.Asked as asked_slices
+use Rattle.bet_requests.specs.declared.spans.Kind.{Kind}
+use Rattle.bet_requests.specs.declared.spans.Kind.TheVariants.{Budget, ConcurrentSides}
 
 -- what is asked: the room for the answer, the place in the line before the starts, and the spans
 pub record Asked : Type 0 where
@@ -22,6 +27,10 @@ pub record Asked : Type 0 where
 
 abbrev pub asked_of : ℕ → ℕ → List ℤ → List ℤ → List Float → Asked
 asked_of room from ss es ds = record { room = room; from = from; starts = ss; ends = es; sides = ds }
+
+-- the same as the code holds it, in slices
+abbrev pub asked_in : asked_slices.Asked → Asked
+asked_in a = asked_of a.room a.from a.starts.now a.ends.now a.sides.now
 
 -- the place of what is left of a line of so many bytes
 abbrev pub place_in : ℕ → List ℕ → Got ℕ
@@ -38,44 +47,51 @@ asked size = do
   sides ← fraction_list
   reply (asked_of room from (take 4096 starts) (take 4096 ends) (take 4096 sides))
 
--- the number of the refusal, 0 for none, where the answer has so many places
-abbrev pub refusal : Asked → ℕ → ℕ
+-- what is turned away where the answer has so many places
+abbrev pub refusal : Asked → ℕ → Result (Unit {0}) Refusal
 refusal a places = spans_refusal (length a.starts) (length a.ends) (length a.sides) (min a.room places)
 
--- what the library answers, as a reply: a row for each span
-abbrev pub rows : ℕ → Asked → Outcome → Reply
-rows columns a (Unwritten number) = Refused number
-rows columns a (Written count) = Spanned (record { count = count; columns = columns; starts = a.from })
+-- what comes of a check: a row for each span, where nothing is refused
+abbrev pub rows : ℕ → Asked → Result (Unit {0}) Refusal → Result SpanRows Refusal
+rows columns a checked = unless_refused checked (record { count = length a.starts; columns = columns; starts = a.from })
 
 -- a list after the answer: new fractions in front, or as it was where the answer is a refusal
-abbrev pub column : ℕ → Asked → List Float → List Float → List Float
-column number a new old = list_after number (length a.starts) new old
+abbrev pub column : Result (Unit {0}) Refusal → Asked → List Float → List Float → List Float
+column checked a new old = list_after checked (length a.starts) new old
 
 -- the counts are two columns, the longs in the first half of the lent list and the shorts in the second
-abbrev pub sides_refusal : ℕ → Asked → ℕ
+abbrev pub sides_refusal : ℕ → Asked → Result (Unit {0}) Refusal
 sides_refusal n a = refusal a (n / 2)
 
+abbrev pub sides_rows : ℕ → Asked → Result SpanRows Refusal
+sides_rows n a = rows 2 a (sides_refusal n a)
+
 abbrev pub sides_reply : ℕ → Asked → Reply
-sides_reply n a = rows 2 a (outcome (sides_refusal n a) (length a.starts))
+sides_reply n a = or_refused Spanned (sides_rows n a)
 
 abbrev pub sides_in : List Float → Asked → List Float
 sides_in xs a =
-    column (sides_refusal (length xs) a) a (concurrent_counts true a.starts a.ends a.sides) (take (length xs / 2) xs)
-    ++ column (sides_refusal (length xs) a) a (concurrent_counts false a.starts a.ends a.sides) (drop (length xs / 2) xs)
+    column (sides_refusal (length xs) a) a (concurrent_counts Long a.starts a.ends a.sides) (take (length xs / 2) xs)
+    ++ column (sides_refusal (length xs) a) a (concurrent_counts Short a.starts a.ends a.sides) (drop (length xs / 2) xs)
 
 -- the sizes are one column
+abbrev pub sizes_rows : ℕ → Asked → Result SpanRows Refusal
+sizes_rows n a = rows 1 a (refusal a n)
+
 abbrev pub sizes_reply : ℕ → Asked → Reply
-sizes_reply n a = rows 1 a (outcome (refusal a n) (length a.starts))
+sizes_reply n a = or_refused Spanned (sizes_rows n a)
 
 abbrev pub sizes_in : List Float → Asked → List Float
 sizes_in xs a = column (refusal a (length xs)) a (budget_sizes a.starts a.ends a.sides) xs
 
--- of both, which the code is asked for: the counts or, where they are not asked for, the sizes
-abbrev pub reply_of : Bool → ℕ → Asked → Reply
-reply_of counts n a = cond counts (sides_reply n a) (sizes_reply n a)
+-- of both, the kind that the code is asked for
+abbrev pub reply_of : Kind → ℕ → Asked → Reply
+reply_of ConcurrentSides n a = sides_reply n a
+reply_of Budget n a = sizes_reply n a
 
-abbrev pub left_by : Bool → List Float → Asked → List Float
-left_by counts xs a = cond counts (sides_in xs a) (sizes_in xs a)
+abbrev pub left_by : Kind → List Float → Asked → List Float
+left_by ConcurrentSides xs a = sides_in xs a
+left_by Budget xs a = sizes_in xs a
 
 -- what comes of the words of a line of so many bytes
 module _ {A : Type 0} where
@@ -85,10 +101,10 @@ module _ {A : Type 0} where
     reply (f a)
 
 -- the reply to the line s, where the lent list has n places
-abbrev pub spans : ℕ → List ℕ → Reply
+abbrev pub spans : ℕ → List ℕ → Option Reply
 spans n s =
     named "concurrent_sides" (words (sides_reply n) (length s)) s
-    (named "budget" (words (sizes_reply n) (length s)) s Bad)
+    (named "budget" (words (sizes_reply n) (length s)) s None)
 
 -- the lent list after it; a line that is no such request leaves it as it was
 abbrev pub spans_in : List Float → List ℕ → List Float

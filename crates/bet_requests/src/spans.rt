@@ -1,156 +1,107 @@
 // Requests of the counts and the budget over spans. A side has 17 bytes of a line, so a line has
 // fewer than 4,096 of them. More starts or ends are unequal to them in number, also when cut to their
 // 4,096 places.
-ghost use Rattle.std.specs.Prelude.{◌≤◌, ◌++◌, ◌≡◌, drop, length};
-ghost use Rattle.bet_requests.specs.Spans.{asked_of, left_by, reply_of, sides_in, sides_reply, sizes_in, sizes_reply, spans, spans_in, words};
-ghost use Rattle.replies.specs.Requests.{only, only_or};
+ghost use Rattle.std.specs.Prelude.{◌≤◌, ◌≡◌, length};
+ghost use Rattle.bet_requests.specs.Spans.{asked_in, left_by, reply_of, sides_in, sides_rows, sizes_in, sizes_rows, spans, spans_in, words};
+ghost use Rattle.protocol.specs.Words.{only};
+ghost use Rattle.replies.specs.Requests.{only_or};
 
-use bet_sizing::Outcome;
-use protocol_lists::List;
+use refusal::Refusal;
 use replies::{Reply, SpanRows};
-use text::Number;
 
 // The fractions of an answer are left in xs.
-pub fn answer(s: &[u8], xs: &mut [f64]) -> Reply
+pub fn answer(s: &[u8], xs: &mut [f64]) -> Option<Reply>
     ensures { (result ≡ spans (length xs.old) s.now)
         × (xs.new ≡ spans_in xs.old s.now) }
 {
-    if protocol::begins(s, b"concurrent_sides ") {
-        return request(s, 16, true, xs);
+    if let Some(words) = protocol::words_after(s, b"concurrent_sides") {
+        return request(Kind::ConcurrentSides, s.len(), words, xs);
     }
-    if protocol::begins(s, b"budget ") {
-        return request(s, 6, false, xs);
+    if let Some(words) = protocol::words_after(s, b"budget") {
+        return request(Kind::Budget, s.len(), words, xs);
     }
-    Reply::Bad
+    None
 }
 
-// The places that lists are read into. Functions, so that a proof takes what they answer as any list of
-// 4,096 places.
-fn instants_room() -> [i64; 4096] {
-    [0i64; 4096]
+// What is asked for. An enum, since the contracts say by it which definition answers.
+#[derive(Clone, Copy)]
+enum Kind {
+    ConcurrentSides,
+    Budget,
 }
 
-fn fractions_room() -> [f64; 4096] {
-    [0.0f64; 4096]
-}
-
-// The reply by the words from a place on. The counts are asked for, or else the sizes.
-fn request(s: &[u8], at: usize, counts: bool, xs: &mut [f64]) -> Reply
-    ensures { (result ≡ only (words (reply_of counts (length xs.old)) (length s.now) (drop at s.now)))
-        × (xs.new ≡ only_or xs.old (words (left_by counts xs.old) (length s.now) (drop at s.now))) }
-{
-    let Number::Is(room, a) = protocol::read_next_natural(s, at, u64::MAX) else {
-        return Reply::Bad;
-    };
-    let mut starts = instants_room();
-    let List::Is(n_starts, b) = protocol_instants::read_next_instants(s, a, &mut starts) else {
-        return Reply::Bad;
-    };
-    let mut ends = instants_room();
-    let List::Is(n_ends, c) = protocol_instants::read_next_instants(s, b, &mut ends) else {
-        return Reply::Bad;
-    };
-    let mut sides = fractions_room();
-    let List::Is(n_sides, e) = protocol_lists::read_next_list(s, c, &mut sides) else {
-        return Reply::Bad;
-    };
-    if e < s.len() {
-        return Reply::Bad;
-    }
-    let i = protocol::least(n_starts, 4096);
-    let j = protocol::least(n_ends, 4096);
-    let k = protocol::least(n_sides, 4096);
-    spans_reply(
-        counts,
-        &starts[..i],
-        &ends[..j],
-        &sides[..k],
-        room as usize,
-        a,
-        xs,
-    )
-}
-
-fn spans_reply(
-    counts: bool,
-    starts: &[i64],
-    ends: &[i64],
-    sides: &[f64],
+// What is asked: the room for the answer, the place in the line before the starts, and the spans.
+#[derive(Clone, Copy)]
+struct Asked<'a> {
     room: usize,
     from: usize,
-    xs: &mut [f64],
-) -> Reply
-    requires { length starts.now ≤ 4096 }
-    ensures { (result ≡ reply_of counts (length xs.old) (asked_of room from starts.now ends.now sides.now))
-        × (xs.new ≡ left_by counts xs.old (asked_of room from starts.now ends.now sides.now)) }
+    starts: &'a [i64],
+    ends: &'a [i64],
+    sides: &'a [f64],
+}
+
+// The reply by the words s of a line of `size` bytes.
+#[tactic(auto, unfolding(crate::specs::Spans::asked))]
+fn request(kind: Kind, size: usize, s: &[u8], xs: &mut [f64]) -> Option<Reply>
+    ensures { (result ≡ only (words (reply_of kind (length xs.old)) size s.now))
+        × (xs.new ≡ only_or xs.old (words (left_by kind xs.old) size s.now)) }
 {
-    if counts {
-        return sides_reply(starts, ends, sides, room, from, xs);
-    }
-    sizes_reply(starts, ends, sides, room, from, xs)
+    let (room, s) = protocol::read_next_natural(s, u64::MAX)?;
+    // What is left is part of the line, so this is its place. Saturating, it asks for no proof of that.
+    let from = size.saturating_sub(s.len());
+    let mut starts = [0i64; 4096];
+    let (n_starts, s) = protocol_lists::read_next_list(s, &mut starts)?;
+    let mut ends = [0i64; 4096];
+    let (n_ends, s) = protocol_lists::read_next_list(s, &mut ends)?;
+    let mut sides = [0.0f64; 4096];
+    let n_sides = protocol::only(protocol_lists::read_next_list(s, &mut sides))?;
+    let asked = Asked {
+        room: room as usize,
+        from,
+        starts: &starts[..n_starts.min(4096)],
+        ends: &ends[..n_ends.min(4096)],
+        sides: &sides[..n_sides.min(4096)],
+    };
+    let rows = match kind {
+        Kind::ConcurrentSides => concurrent_sides(asked, xs),
+        Kind::Budget => bet_size_budget(asked, xs),
+    };
+    Some(rows.map_or_else(Reply::Refused, Reply::Spanned))
 }
 
 // The counts of longs go into the first half of xs, those of shorts into the second.
-fn sides_reply(
-    starts: &[i64],
-    ends: &[i64],
-    sides: &[f64],
-    room: usize,
-    from: usize,
-    xs: &mut [f64],
-) -> Reply
-    requires { length starts.now ≤ 4096 }
-    ensures { (result ≡ sides_reply (length xs.old) (asked_of room from starts.now ends.now sides.now))
-        × (xs.new ≡ sides_in xs.old (asked_of room from starts.now ends.now sides.now)) }
+fn concurrent_sides(a: Asked<'_>, xs: &mut [f64]) -> Result<SpanRows, Refusal>
+    requires { length a.starts.now ≤ 4096 }
+    ensures { (result ≡ sides_rows (length xs.old) (asked_in a.entry))
+        × (xs.new ≡ sides_in xs.old (asked_in a.entry)) }
 {
     let half = xs.len() / 2;
-    let places = protocol::least(room, half);
-    let mut short = fractions_room();
-    let r = bet_sizing::get_concurrent_sides(starts, ends, sides, &mut xs[..places], &mut short);
-    match r {
-        Outcome::Unwritten(number) => Reply::Refused(number),
-        Outcome::Written(count) => {
-            copy(&short[..count], &mut xs[half..]);
-            Reply::Spanned(SpanRows {
-                count: count,
-                columns: 2,
-                starts: from,
-            })
-        }
-    }
+    let places = a.room.min(half);
+    let mut short = [0.0f64; 4096];
+    let count = bet_sizing::get_concurrent_sides(
+        a.starts,
+        a.ends,
+        a.sides,
+        &mut xs[..places],
+        &mut short,
+    )?;
+    xs[half..half + count].copy_from_slice(&short[..count]);
+    Ok(SpanRows {
+        count,
+        columns: 2,
+        starts: a.from,
+    })
 }
 
-// Copies x to the front of y.
-fn copy(x: &[f64], y: &mut [f64])
-    requires { length x.now ≤ length y.old }
-    ensures { y.new ≡ x.now ++ drop (length x.now) y.old }
+fn bet_size_budget(a: Asked<'_>, xs: &mut [f64]) -> Result<SpanRows, Refusal>
+    ensures { (result ≡ sizes_rows (length xs.old) (asked_in a.entry))
+        × (xs.new ≡ sizes_in xs.old (asked_in a.entry)) }
 {
-    let mut i = 0;
-    while i < x.len() {
-        y[i] = x[i];
-        i += 1;
-    }
-}
-
-fn sizes_reply(
-    starts: &[i64],
-    ends: &[i64],
-    sides: &[f64],
-    room: usize,
-    from: usize,
-    xs: &mut [f64],
-) -> Reply
-    ensures { (result ≡ sizes_reply (length xs.old) (asked_of room from starts.now ends.now sides.now))
-        × (xs.new ≡ sizes_in xs.old (asked_of room from starts.now ends.now sides.now)) }
-{
-    let places = protocol::least(room, xs.len());
-    let r = budget::bet_size_budget(starts, ends, sides, &mut xs[..places]);
-    match r {
-        Outcome::Unwritten(number) => Reply::Refused(number),
-        Outcome::Written(count) => Reply::Spanned(SpanRows {
-            count: count,
-            columns: 1,
-            starts: from,
-        }),
-    }
+    let places = a.room.min(xs.len());
+    let count = budget::bet_size_budget(a.starts, a.ends, a.sides, &mut xs[..places])?;
+    Ok(SpanRows {
+        count,
+        columns: 1,
+        starts: a.from,
+    })
 }

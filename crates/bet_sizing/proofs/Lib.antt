@@ -1,9 +1,6 @@
 pub mod Collecting
 pub mod Filling
-pub mod Halves
-pub mod Merging
 pub mod Netting
 pub mod Ranks
 pub mod Refusing
 pub mod Searching
-pub mod Signs

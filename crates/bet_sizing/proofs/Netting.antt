@@ -1,7 +1,6 @@
 -- The starts up to t less the ends up to t are the spans live at t. Assumes nothing.
-use Prim.Native.Nat.{ℕ, suc, ◌+◌, ◌≤◌, ◌<◌}
-use mathlib.Core.Path.{◌≡◌, refl, sym, ap, ◌∙◌, subst}
-use lib.Seq.{length-take-le}
+use Prim.Native.Nat.{ℕ, suc, ◌+◌, ◌<◌}
+use mathlib.Core.Path.{◌≡◌, refl, ap, ◌∙◌}
 use mathlib.Core.Bool.{Bool, true, false, ◌&&◌}
 use mathlib.Core.List.{List, [], ◌∷◌, ◌++◌, map}
 use native.Mathlib.Omega.{arith}
@@ -15,10 +14,12 @@ use mir.Val.{SFits}
 use borrow.Author.Tests.{ltb-true, ltb-false, leb-true, leb-false}
 use Rattle.float.specs.Keys.{key_of}
 use Rattle.float.proofs.Keys.{key_le, key_lt}
-use Rattle.bet_sizing.specs.Counting.{Collected, Counted, Nettable, Netted, begun, ended, net}
+use Rattle.bet_sizing.specs.declared.counts.Side.{Side}
+use Rattle.bet_sizing.specs.Counting.{Collected, Counted, Netted, begun, ended, net}
 use Rattle.bet_sizing.specs.Counts.{concurrent, indicator, on_side, whole}
-use Rattle.bet_sizing.specs.Sorting.{Sorted, Sorts}
-use Rattle.bet_sizing.proofs.Halves.{front_of}
+use Rattle.std.specs.List.Sorted.{IsPermutation}
+use Rattle.std.proofs.lemmas.List.Sorted.{sum_by-IsPermutation}
+use Rattle.bet_sizing.specs.Sorting.{rank}
 
 -- ---- one span from p to q, at u, by the tests' answers
 
@@ -45,13 +46,13 @@ span : (s e t : ℤ) (w : Bool) → SFits w64 s → SFits w64 e → SFits w64 t 
 span s e t w fs fe ft = rw (← key_lt s e fs fe, ← key_lt t e ft fe, ← key_le s t fs ft) (numbers (key_of s) (key_of e) (key_of t) w)
 
 -- all spans
-pub law : (long : Bool) (t : ℤ) (ss es : List ℤ) (ds : List Float) → SFits w64 t → ((k : ℕ) → k < length ss → SFits w64 (get_or ss k (pos 0))) → ((k : ℕ) → k < length ss → SFits w64 (get_or es k (pos 0))) → begun long (key_of t) ss es ds ≡ concurrent long t ss es ds + ended long (key_of t) ss es ds
+pub law : (side : Side) (t : ℤ) (ss es : List ℤ) (ds : List Float) → SFits w64 t → ((k : ℕ) → k < length ss → SFits w64 (get_or ss k (pos 0))) → ((k : ℕ) → k < length ss → SFits w64 (get_or es k (pos 0))) → begun side (key_of t) ss es ds ≡ concurrent side t ss es ds + ended side (key_of t) ss es ds
 unfolding begun ended concurrent
-law long t [] es ds ft fs fe = omega arith
-law long t (s ∷ ss) [] ds ft fs fe = omega arith
-law long t (s ∷ ss) (e ∷ es) [] ft fs fe = omega arith
-law long t (s ∷ ss) (e ∷ es) (d ∷ ds) ft fs fe =
-    omega (arith, span s e t (on_side long d) (fs 0 (omega arith)) (fe 0 (omega arith)) ft, law long t ss es ds ft (λ k l. fs (suc k) (omega arith)) (λ k l. fe (suc k) (omega arith)))
+law side t [] es ds ft fs fe = omega arith
+law side t (s ∷ ss) [] ds ft fs fe = omega arith
+law side t (s ∷ ss) (e ∷ es) [] ft fs fe = omega arith
+law side t (s ∷ ss) (e ∷ es) (d ∷ ds) ft fs fe =
+    omega (arith, span s e t (on_side side d) (fs 0 (omega arith)) (fe 0 (omega arith)) ft, law side t ss es ds ft (λ k l. fs (suc k) (omega arith)) (λ k l. fe (suc k) (omega arith)))
 
 -- equal values at each instant
 same_map : (f g : ℤ → Float) (ss : List ℤ) → ((k : ℕ) → k < length ss → f (get_or ss k (pos 0)) ≡ g (get_or ss k (pos 0))) → map f ss ≡ map g ss
@@ -59,25 +60,10 @@ same_map f g [] h = refl
 same_map f g (s ∷ ss) h = cc (h 0 (omega arith), same_map f g ss (λ k l. h (suc k) (omega arith)))
 
 -- from what is collected and sorted to the counts
-pub netted : {long : Bool} {ss es : List ℤ} {ds old new : List Float} {s e s' e' : List ℕ} {m : ℕ} → Collected long ss es ds s e m → Sorts (take m s) s' → Sorts (take m e) e' → Netted ss s' e' old new → Counted long ss es ds old new
-netted {long} {ss} {es} {ds} {old} {s' = s'} {e' = e'} c p q w =
-    let at : (k : ℕ) → k < length ss → net s' e' (get_or ss k (pos 0)) ≡ concurrent long (get_or ss k (pos 0)) ss es ds = λ k l.
+pub netted : {side : Side} {ss es : List ℤ} {ds old new : List Float} {s e s' e' : List ℕ} {m : ℕ} → Collected side ss es ds s e m → IsPermutation (take m s) s' → IsPermutation (take m e) e' → Netted ss s' e' old new → Counted side ss es ds old new
+netted {side} {ss} {es} {ds} {old} {s = s} {e = e} {s' = s'} {e' = e'} {m = m} c p q w =
+    let same : (x : ℕ) (l l' : List ℕ) → IsPermutation l l' → rank x l' ≡ rank x l = λ x l l'. sum_by-IsPermutation (λ k. indicator (leb k x)) l l' in
+    let at : (k : ℕ) → k < length ss → net s' e' (get_or ss k (pos 0)) ≡ concurrent side (get_or ss k (pos 0)) ss es ds = λ k l.
     let x = key_of (get_or ss k (pos 0)) in
-    omega (arith, p.same x, q.same x, c.starts x, c.ends x, law long (get_or ss k (pos 0)) ss es ds (c.fit_starts k l) c.fit_starts c.fit_ends) in
-    record { list = w.list ∙ ap (λ (z : List Float). z ++ drop (length ss) old) (same_map (λ t. whole (net s' e' t)) (λ t. whole (concurrent long t ss es ds)) ss (λ k l. ap whole (at k l))) }
-
-module _ (s e x y : List ℕ) (m : ℕ) (hs : m ≤ length s) (he : m ≤ length e) (kx : length x ≡ length (take m s)) (ky : length y ≡ length (take m e)) (p : Sorts (take m s) x) (q : Sorts (take m e) y) where
-  pub nettable : {ss : List ℤ} {out : List Float} → m ≤ 16384 → length ss ≤ length out → Nettable ss (take m (x ++ drop m s)) (take m (y ++ drop m e)) out
-  nettable few room = record {
-    starts = subst Sorted (sym (front_of s x m hs kx)) p.sorted;
-    ends = subst Sorted (sym (front_of e y m he ky)) q.sorted;
-    few_starts = omega (arith, ap length (front_of s x m hs kx), kx, length-take-le m s hs);
-    few_ends = omega (arith, ap length (front_of e y m he ky), ky, length-take-le m e he);
-    room = room;
-  }
-
-  pub netted_at : {long : Bool} {ss es : List ℤ} {ds out new : List Float} → Collected long ss es ds s e m → Netted ss (take m (x ++ drop m s)) (take m (y ++ drop m e)) out new → Counted long ss es ds out new
-  netted_at {ss = ss} {out = out} {new = new} c w =
-      netted c p q
-      (subst (λ (z : List ℕ). Netted ss z y out new) (front_of s x m hs kx)
-      (subst (λ (z : List ℕ). Netted ss (take m (x ++ drop m s)) z out new) (front_of e y m he ky) w))
+    omega (arith, same x (take m s) s' p, same x (take m e) e' q, c.starts x, c.ends x, law side (get_or ss k (pos 0)) ss es ds (c.fit_starts k l) c.fit_starts c.fit_ends) in
+    record { list = w.list ∙ ap (λ (z : List Float). z ++ drop (length ss) old) (same_map (λ t. whole (net s' e' t)) (λ t. whole (concurrent side t ss es ds)) ss (λ k l. ap whole (at k l))) }

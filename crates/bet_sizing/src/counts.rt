@@ -1,68 +1,37 @@
 // How many spans of each side are live at each span's start: starts up to then less ends up to
 // then, each found by its rank in a sorted list.
-ghost use Rattle.std.specs.Prelude.{◌≡◌, ◌&&◌, ◌-◌};
+ghost use Rattle.std.specs.Prelude.{◌≡◌, ◌≤◌, ◌<◌, ◌&&◌, length, slice_index};
 ghost use Rattle.std.specs.Int.Signed.{lt_z};
-ghost use Rattle.bet_sizing.specs.Counting.{Accepted, AcceptedIn, Collectable, Collected, Counted, Nettable, Netted};
-ghost use Rattle.bet_sizing.specs.Counts.{indicator, on_side};
+ghost use Rattle.bet_sizing.specs.Counting.{Collected, Counted, Nettable, Netted};
+ghost use Rattle.bet_sizing.specs.Counts.{on_side};
 ghost use Rattle.bet_sizing.specs.Refusals.{ConcurrentSides};
 
-use crate::{Outcome, refusals, sorting};
+use crate::{refusals, sorting};
+use refusal::Refusal;
 
-// Whether a side is the one that is asked for.
-fn on_side(long: bool, side: f64) -> bool
-    ensures { result ≡ on_side long side }
-{
-    let up = side > 0.0;
-    if long { up } else { !up }
+// A span is long where its number is above 0, and short otherwise.
+#[derive(Clone, Copy, Debug, PartialEq, Eq)]
+pub enum Side {
+    Long,
+    Short,
 }
 
-// a - b, or 0 where b is the larger.
-fn saturating_sub(a: usize, b: usize) -> usize
-    ensures { result ≡ a - b }
+// Whether a span's number puts it on the side.
+fn on_side(side: Side, number: f64) -> bool
+    ensures { result ≡ on_side side number }
 {
-    if a < b {
-        return 0;
+    let up = number > 0.0;
+    match side {
+        Side::Long => up,
+        Side::Short => !up,
     }
-    a - b
 }
 
-// 1 if a span is of the side that is asked for and ends after it starts, else 0.
-fn ever_live(long: bool, start: i64, end: i64, side: f64) -> usize
-    ensures { result ≡ indicator (lt_z start end && on_side long side) }
+// Whether a span is of the side that is asked for and ends after it starts.
+fn ever_live(side: Side, start: i64, end: i64, number: f64) -> bool
+    ensures { result ≡ (lt_z start end && on_side side number) }
 {
-    if start < end {
-        if on_side(long, side) {
-            return 1;
-        }
-        return 0;
-    }
-    0
-}
-
-// Writes the keys of the starts and of the ends of a side's spans that are ever live, and answers
-// how many.
-fn collect(
-    long: bool,
-    starts: &[i64],
-    ends: &[i64],
-    sides: &[f64],
-    s: &mut [u64],
-    e: &mut [u64],
-) -> usize
-    requires { Collectable starts.now ends.now sides.now s.old e.old }
-    ensures { Collected long starts.now ends.now sides.now s.new e.new result }
-{
-    let mut m: usize = 0;
-    let mut i: usize = 0;
-    while i < starts.len() {
-        let a = starts[i];
-        let b = ends[i];
-        s[m] = number::key(a);
-        e[m] = number::key(b);
-        m += ever_live(long, a, b, sides[i]);
-        i += 1;
-    }
-    m
+    start < end && on_side(side, number)
 }
 
 // Writes for each instant the number of starts up to then less the number of ends up to then.
@@ -70,44 +39,54 @@ fn net_counts(starts: &[i64], s: &[u64], e: &[u64], out: &mut [f64])
     requires { Nettable starts.now s.now e.now out.old }
     ensures { Netted starts.now s.now e.now out.old out.new }
 {
-    let mut i: usize = 0;
-    while i < starts.len() {
+    for i in 0..starts.len() {
         let k = number::key(starts[i]);
-        let c = saturating_sub(sorting::rank_of(s, k), sorting::rank_of(e, k)) as u32;
-        out[i] = c as f64;
-        i += 1;
+        let count = sorting::rank_of(s, k).saturating_sub(sorting::rank_of(e, k));
+        out[i] = count as u32 as f64;
     }
 }
 
-// Writes for each span the number of a side live at its start, with s, e and t for room.
-fn count_side_in(
-    long: bool,
-    starts: &[i64],
-    ends: &[i64],
-    sides: &[f64],
-    s: &mut [u64],
-    e: &mut [u64],
-    t: &mut [u64],
-    out: &mut [f64],
-)
-    requires { AcceptedIn starts.now ends.now sides.now s.old e.old t.old out.old }
-    ensures { Counted long starts.now ends.now sides.now out.old out.new }
-{
-    let m = collect(long, starts, ends, sides, s, e);
-    sorting::sort(&mut s[..m], t);
-    sorting::sort(&mut e[..m], t);
-    net_counts(starts, &s[..m], &e[..m], out);
+// As many ends and sides as starts, and few enough.
+#[derive(Clone, Copy)]
+struct Spans<'a> {
+    starts: &'a [i64],
+    ends: &'a [i64],
+    sides: &'a [f64],
+    ghost ends_as_many: { length starts.now ≡ length ends.now },
+    ghost sides_as_many: { length starts.now ≡ length sides.now },
+    ghost few: { length starts.now ≤ 16384 },
 }
 
-// The same, with rooms of its own, apart for shorter proofs.
-fn count_side(long: bool, starts: &[i64], ends: &[i64], sides: &[f64], out: &mut [f64])
-    requires { Accepted starts.now ends.now sides.now out.old }
-    ensures { Counted long starts.now ends.now sides.now out.old out.new }
-{
-    let mut s = [0u64; 16384];
-    let mut e = [0u64; 16384];
-    let mut t = [0u64; 16384];
-    count_side_in(long, starts, ends, sides, &mut s, &mut e, &mut t, out);
+impl Spans<'_> {
+    // Writes the keys of the starts and of the ends of a side's spans that are ever live, and answers
+    // how many.
+    fn collect(&self, side: Side, s: &mut [u64], e: &mut [u64]) -> usize
+        requires { (length self.now.starts.now ≤ length s.old) × (length self.now.starts.now ≤ length e.old) }
+        ensures { Collected side self.now.starts.now self.now.ends.now self.now.sides.now s.new e.new result }
+    {
+        let mut m = 0;
+        for i in 0..self.starts.len() {
+            s[m] = number::key(self.starts[i]);
+            e[m] = number::key(self.ends[i]);
+            m += usize::from(ever_live(side, self.starts[i], self.ends[i], self.sides[i]));
+        }
+        m
+    }
+
+    // Writes for each span the number of a side live at its start.
+    fn count(&self, side: Side, out: &mut [f64])
+        requires { length self.now.starts.now ≤ length out.old }
+        ensures { Counted side self.now.starts.now self.now.ends.now self.now.sides.now out.old out.new }
+    {
+        let mut s = [0u64; 16384];
+        let mut e = [0u64; 16384];
+        let m = self.collect(side, &mut s, &mut e);
+        let s = &mut s[..m];
+        let e = &mut e[..m];
+        s.sort_unstable();
+        e.sort_unstable();
+        net_counts(self.starts, s, e, out);
+    }
 }
 
 // Writes for each span how many are live at its start, the long and the short.
@@ -117,15 +96,17 @@ pub fn get_concurrent_sides(
     sides: &[f64],
     long: &mut [f64],
     short: &mut [f64],
-) -> Outcome
+) -> Result<usize, Refusal>
     ensures { ConcurrentSides starts.now ends.now sides.now long.old long.new short.old short.new result }
 {
-    let room = refusals::smaller(long.len(), short.len());
-    let number = refusals::spans(starts.len(), ends.len(), sides.len(), room);
-    if number != 0 {
-        return Outcome::Unwritten(number);
-    }
-    count_side(true, starts, ends, sides, long);
-    count_side(false, starts, ends, sides, short);
-    Outcome::Written(starts.len())
+    let room = long.len().min(short.len());
+    refusals::check_spans(starts.len(), ends.len(), sides.len(), room)?;
+    let spans = Spans {
+        starts,
+        ends,
+        sides,
+    };
+    spans.count(Side::Long, long);
+    spans.count(Side::Short, short);
+    Ok(starts.len())
 }

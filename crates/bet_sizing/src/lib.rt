@@ -6,10 +6,3 @@ pub mod refusals; // refusals.rt: what is turned away
 pub mod sorting; // sorting.rt: sorted lists of keys
 
 pub use counts::get_concurrent_sides;
-
-// How many places of each lent list were written, or why none was: document 01's number.
-#[derive(Clone, Copy)]
-pub enum Outcome {
-    Unwritten(u64),
-    Written(usize),
-}

@@ -1,7 +1,7 @@
 -- The largest count, a turn at a time; and the sizes, by their places and as a list. Assumes nothing.
-use Prim.Native.Nat.{ℕ, zero, suc, ◌+◌, ◌≤◌, ◌<◌}
+use Prim.Native.Nat.{ℕ, zero, suc, ◌+◌, ◌<◌}
 use mathlib.Core.Path.{◌≡◌, refl, ap}
-use mathlib.Core.List.{List, [], ◌∷◌, ◌++◌, map}
+use mathlib.Core.List.{List, [], ◌∷◌, map}
 use native.Mathlib.Numerals.{add-one}
 use native.Mathlib.Omega.{arith}
 use lib.ListN.{length, drop, get_or}
@@ -9,7 +9,6 @@ use lib.Seq.{drop-cons, drop-length}
 use lib.IntN.{ℤ}
 use lib.Ieee.{Float, nan, binary64, sub}
 use Rattle.float.specs.Leaves.{larger_of}
-use Rattle.bet_sizing.proofs.Filling.{Fill, fill_all}
 use Rattle.budget.specs.Budget.{largest, largest_from, share}
 use Rattle.budget.specs.Sizes.{sizes_by, sizes_of}
 
@@ -49,6 +48,3 @@ module _ (ls ss : List Float) where
 
   pub size_at : (i : ℕ) {a b x y : Float} → length ls ≡ length ss → i < length ls → a ≡ largest ls → b ≡ largest ss → x ≡ share (get_or ls i nan) a → y ≡ share (get_or ss i nan) b → sub binary64 x y ≡ get_or (sizes_of ls ss) i nan
   size_at i e h p q u v = rw (u, v, p, q) (by_at (largest ls) (largest ss) ls ss i e h)
-
-  pub sizes_all : {old new : List Float} {i : ℕ} → length ls ≡ length ss → Fill (sizes_of ls ss) old new i → length ls ≤ i → new ≡ sizes_of ls ss ++ drop (length ls) old
-  sizes_all e h l = rw (sizes_length e) at (fill_all h (omega (arith, sizes_length e)))

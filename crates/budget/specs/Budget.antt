@@ -1,12 +1,14 @@
 -- The budget size of chapter 10 of Advances in Financial Machine Learning: the live longs over their largest number, less the same of the shorts; the Rust's bet_size_budget, line by line. Definitions only.
-use Rattle.std.specs.Prelude.{ℕ, ◌≡◌, true, false, cond, List, [], ◌∷◌, map, ℤ, Float, length}
+use Rattle.std.specs.Prelude.{ℕ, ◌≡◌, cond, Result, List, [], ◌∷◌, map, ℤ, Float, length}
 use Rattle.std.specs.Float.{binary64}
 use Rattle.std.specs.Float.Ieee.{div, lt, sub}
 use Rattle.float.specs.Constants.{nought}
 use Rattle.float.specs.Leaves.{larger_of}
+use Rattle.bet_sizing.specs.declared.counts.Side.TheVariants.{Long, Short}
 use Rattle.bet_sizing.specs.Counts.{concurrent, concurrent_counts, whole}
-use Rattle.bet_sizing.specs.Refusals.{list_after, outcome, spans_refusal}
-use Rattle.bet_sizing.specs.declared.Outcome.{Outcome}
+use Rattle.bet_sizing.specs.Refusals.{list_after, spans_refusal}
+use Rattle.refusal.specs.Numbers.{unless_refused}
+use Rattle.refusal.specs.declared.Refusal.{Refusal}
 
 -- the larger of a number and of counts, one after another
 unfoldable pub largest_from : Float → List Float → Float
@@ -25,18 +27,18 @@ share c most = cond (lt nought most) (div binary64 c most) nought
 abbrev pub budget_size : List ℤ → List ℤ → List Float → ℤ → Float
 budget_size ss es ds t =
     sub binary64
-    (share (whole (concurrent true t ss es ds)) (largest (concurrent_counts true ss es ds)))
-    (share (whole (concurrent false t ss es ds)) (largest (concurrent_counts false ss es ds)))
+    (share (whole (concurrent Long t ss es ds)) (largest (concurrent_counts Long ss es ds)))
+    (share (whole (concurrent Short t ss es ds)) (largest (concurrent_counts Short ss es ds)))
 
 -- for each span, the size at its start
 abbrev pub budget_sizes : List ℤ → List ℤ → List Float → List Float
 budget_sizes ss es ds = map (budget_size ss es ds) ss
 
--- the number of the refusal, 0 for none
-abbrev pub budget_refusal : List ℤ → List ℤ → List Float → List Float → ℕ
+-- what it turns away
+abbrev pub budget_refusal : List ℤ → List ℤ → List Float → List Float → Result (Unit {0}) Refusal
 budget_refusal ss es ds size = spans_refusal (length ss) (length es) (length ds) (length size)
 
 -- bet_size_budget: its answer, and the lent list before and after it
-pub record BetSizeBudget (ss es : List ℤ) (ds size size' : List Float) (answer : Outcome) : Type 0 where
-  pub answered : answer ≡ outcome (budget_refusal ss es ds size) (length ss)
+pub record BetSizeBudget (ss es : List ℤ) (ds size size' : List Float) (answer : Result ℕ Refusal) : Type 0 where
+  pub answered : answer ≡ unless_refused (budget_refusal ss es ds size) (length ss)
   pub sizes : size' ≡ list_after (budget_refusal ss es ds size) (length ss) (budget_sizes ss es ds) size

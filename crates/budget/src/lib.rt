@@ -5,17 +5,15 @@ ghost use Rattle.std.specs.Prelude.{◌≡◌, ◌++◌, ◌≤◌, length, drop
 ghost use Rattle.budget.specs.Budget.{BetSizeBudget, largest, share};
 ghost use Rattle.budget.specs.Sizes.{sizes_of};
 
-use bet_sizing::Outcome;
+use refusal::Refusal;
 
 // The largest of the counts, 0 for none.
 fn largest(counts: &[f64]) -> f64
     ensures { result ≡ largest counts.now }
 {
     let mut most = 0.0;
-    let mut i: usize = 0;
-    while i < counts.len() {
-        most = number::larger(most, counts[i]);
-        i += 1;
+    for count in counts {
+        most = number::larger(most, *count);
     }
     most
 }
@@ -37,35 +35,27 @@ fn sizes_of(long: &[f64], short: &[f64], size: &mut [f64])
 {
     let max_long = largest(long);
     let max_short = largest(short);
-    let mut i: usize = 0;
-    while i < long.len() {
+    for i in 0..long.len() {
         size[i] = share_of(long[i], max_long) - share_of(short[i], max_short);
-        i += 1;
     }
-}
-
-// Room for the counts of as many spans as are taken. Apart, so that the caller's proof has a length
-// and not 16,384 zeros.
-fn room() -> [f64; 16384]
-    ensures { length result ≡ 16384 }
-{
-    [0.0f64; 16384]
 }
 
 // Writes the budget size of each span. The counts have room for as many spans as are taken, so they
 // are refused as the sizes are, but for the room of these.
-pub fn bet_size_budget(starts: &[i64], ends: &[i64], sides: &[f64], size: &mut [f64]) -> Outcome
+pub fn bet_size_budget(
+    starts: &[i64],
+    ends: &[i64],
+    sides: &[f64],
+    size: &mut [f64],
+) -> Result<usize, Refusal>
     ensures { BetSizeBudget starts.now ends.now sides.now size.old size.new result }
 {
-    let mut long = room();
-    let mut short = room();
-    let counted = bet_sizing::get_concurrent_sides(starts, ends, sides, &mut long, &mut short);
-    let Outcome::Written(n) = counted else {
-        return counted;
-    };
+    let mut long = [0.0f64; 16384];
+    let mut short = [0.0f64; 16384];
+    let n = bet_sizing::get_concurrent_sides(starts, ends, sides, &mut long, &mut short)?;
     if size.len() < n {
-        return Outcome::Unwritten(8);
+        return Err(Refusal::TooLittleRoom);
     }
     sizes_of(&long[..n], &short[..n], size);
-    Outcome::Written(n)
+    Ok(n)
 }

@@ -1,3 +1,2 @@
 pub mod Fitting
-pub mod Numbers
 pub mod Several

@@ -1,28 +1,24 @@
 -- Several runs for C: there is room for their rows, and what they leave where `fit` is too short and where it is not. Assumes nothing.
 use mathlib.Core.Path.{◌≡◌, refl, sym, ap, ◌∙◌}
 use mathlib.Core.List.{List}
-use Prim.Native.Nat.{ℕ, zero, suc, ◌/◌, ◌≤◌, ◌<◌}
+use Prim.Native.Nat.{ℕ, ◌/◌, ◌≤◌, ◌<◌}
 use native.Mathlib.Omega.{arith}
 use lib.ListN.{length}
 use lib.Ieee.{Float}
 use borrow.Author.Tests.{lt-ltb, le-ltb}
 use Rattle.walk.specs.declared.M2N.{M2N}
 use Rattle.fit_runs.proofs.Flats.{length_flat_64}
-use Rattle.fit_runs.proofs.Running.{few_rows}
-use Rattle.fit_refusals.specs.Refusals.{runs_refusal}
-use Rattle.fit_runs.specs.Runs.{filled_by, flat_fit, mp_fit, run_rows}
-use Rattle.fit_runs.specs.declared.Filled.TheVariants.{Unfilled, Rows}
+use Rattle.fit_runs.proofs.Running.{count_is, few_rows}
+use Rattle.std.proofs.Common.{Err}
+use Rattle.refusal.specs.declared.Refusal.TheVariants.{TooLittleRoom}
+use Rattle.fit_runs.specs.Runs.{flat_fit, mp_fit, run_rows}
 use Rattle.fit_runs.specs.declared.Flat.{Flat}
 use Rattle.capi.specs.Fits.{MpFitLeaves, Roomy, filled_of, ran}
 use Rattle.capi_states.specs.States.{state_of}
 
 -- ---- room
-filled : (k l n : ℕ) → filled_by k l ≡ Rows n → l ≡ n
-filled zero l n e = cc
-filled (suc k) l n e = cc
-
-outcome_of_lem : (m : M2N) (weights : List Float) (places : ℕ) → (flat_fit m weights places).outcome ≡ filled_by (runs_refusal m weights places) (length (run_rows m weights places))
-unfolding flat_fit mp_fit
+outcome_of_lem : (m : M2N) (weights : List Float) (places : ℕ) → (flat_fit m weights places).outcome ≡ mp_fit m weights places
+unfolding flat_fit
 outcome_of_lem m weights places = refl
 
 numbers_of : (m : M2N) (weights : List Float) (places : ℕ) → length (run_rows m weights places) ≤ 64 → length (flat_fit m weights places).numbers ≡ 384
@@ -32,13 +28,13 @@ numbers_of m weights places h = length_flat_64 (run_rows m weights places) h
 pub roomy : (m : M2N) (weights rows : List Float) (f : Flat) → f ≡ flat_fit m weights (length rows / 6) → Roomy f rows
 roomy m weights rows f h n e =
     let places = length rows / 6 in
-    let l : length (run_rows m weights places) ≡ n = filled (runs_refusal m weights places) _ n (sym (outcome_of_lem m weights places) ∙ sym (ap (λ (x : Flat). x.outcome) h) ∙ e) in
+    let l : length (run_rows m weights places) ≡ n = count_is m weights places n (sym (outcome_of_lem m weights places) ∙ sym (ap (λ (x : Flat). x.outcome) h) ∙ e) in
     let few = few_rows m weights places in
     (omega arith, rw h (rw (numbers_of m weights places few.1) (omega arith)), omega arith)
 
 -- ---- the answer
 module _ (moments : List Float) (variant : ℕ) (factor : Float) (max-iter n-runs : ℕ) (weights fit rows : List Float) where
-  pub short : length fit < 12 → filled_of moments variant factor max-iter n-runs weights fit rows ≡ Unfilled 8
+  pub short : length fit < 12 → filled_of moments variant factor max-iter n-runs weights fit rows ≡ Err TooLittleRoom
   unfolding filled_of
   short h = rw (lt-ltb (length fit) 12 h)
 

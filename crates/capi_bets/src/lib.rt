@@ -1,20 +1,7 @@
 // The counts and the budget sizes, for C (include/woddirme.h).
 #![tactic(auto)]
 
-ghost use Rattle.std.specs.Prelude.{◌≡◌};
-ghost use Rattle.capi_bets.specs.Bets.{BudgetLeaves, SidesLeave, spans_number};
-
-use bet_sizing::Outcome;
-
-// Nothing is refused by 0, so 0 stands for no refusal; how many were written, C knows.
-fn number_of(o: Outcome) -> u64
-    ensures { result ≡ spans_number o }
-{
-    match o {
-        Outcome::Unwritten(n) => n,
-        Outcome::Written(_) => 0,
-    }
-}
+ghost use Rattle.capi_bets.specs.Bets.{BudgetLeaves, SidesLeave};
 
 // How many spans of each side are live at each start (get_concurrent_sides), in the front of `long` and
 // of `short`. Answers 0, or the number of the refusal, which leaves both as they were.
@@ -28,8 +15,7 @@ pub extern "C" fn woddirme_get_concurrent_sides(
 ) -> u64
     ensures { SidesLeave starts.now ends.now sides.now long.old long.new short.old short.new result }
 {
-    let o = bet_sizing::get_concurrent_sides(starts, ends, sides, long, short);
-    number_of(o)
+    refusal::status_of(bet_sizing::get_concurrent_sides(starts, ends, sides, long, short))
 }
 
 // The budget size of each span (bet_size_budget), in the front of `size`. Answers 0, or the number of the
@@ -43,6 +29,5 @@ pub extern "C" fn woddirme_bet_size_budget(
 ) -> u64
     ensures { BudgetLeaves starts.now ends.now sides.now size.old size.new result }
 {
-    let o = budget::bet_size_budget(starts, ends, sides, size);
-    number_of(o)
+    refusal::status_of(budget::bet_size_budget(starts, ends, sides, size))
 }

@@ -2,11 +2,10 @@
 #![tactic(auto)]
 
 ghost use Rattle.std.specs.Prelude.{◌≡◌};
+ghost use Rattle.std.specs.Result.{result_unwrap_or};
 ghost use Rattle.prices.specs.Prices.{get_w_sigmoid, inv_price_sigmoid};
 ghost use Rattle.limit_price.specs.LimitPrice.{limit_price_sigmoid};
-ghost use Rattle.capi_prices.specs.Limits.{limit_number, price_after};
-
-use limit_price::Limit;
+ghost use Rattle.refusal.specs.Numbers.{status_of};
 
 // The width at which a divergence of price_div has the size m_bet_size (get_w_sigmoid).
 #[unsafe(no_mangle)]
@@ -28,16 +27,6 @@ pub extern "C" fn woddirme_inv_price_sigmoid(
     prices::inv_price_sigmoid(forecast_price, w_param, m_bet_size)
 }
 
-// Nothing is refused by 0, so 0 stands for no refusal.
-fn limit_number(l: Limit) -> u64
-    ensures { result ≡ limit_number l }
-{
-    match l {
-        Limit::Refused(n) => n,
-        Limit::Price(_) => 0,
-    }
-}
-
 // The mean price of the lots from pos to t_pos (limit_price_sigmoid). Answers 0, or the number of the
 // refusal, which leaves `price` as it was.
 #[unsafe(no_mangle)]
@@ -49,12 +38,11 @@ pub extern "C" fn woddirme_limit_price_sigmoid(
     max_pos: f64,
     price: &mut f64,
 ) -> u64
-    ensures { (result ≡ limit_number (limit_price_sigmoid t_pos pos f w max_pos)) × (price.new ≡ price_after (limit_price_sigmoid t_pos pos f w max_pos) price.old) }
+    ensures { (result ≡ status_of (limit_price_sigmoid t_pos pos f w max_pos)) × (price.new ≡ result_unwrap_or (limit_price_sigmoid t_pos pos f w max_pos) price.old) }
 {
-    let l = limit_price::limit_price_sigmoid(t_pos, pos, f, w, max_pos);
-    let Limit::Price(x) = l else {
-        return limit_number(l);
-    };
-    *price = x;
-    0
+    let answer = limit_price::limit_price_sigmoid(t_pos, pos, f, w, max_pos);
+    if let Ok(x) = answer {
+        *price = x;
+    }
+    refusal::status_of(answer)
 }

@@ -7,8 +7,9 @@ use mathlib.Core.List.{List, [], ◌∷◌, ◌++◌, append_assoc}
 use lib.ListN.{length, set, drop, get_or, length-append, length-drop}
 use lib.Seq.{drop-cons, set_at}
 use lib.Ieee.{Float}
-use Rattle.fit_runs.specs.Runs.{row_at, rows_at}
-use Rattle.grid.specs.declared.FitResultRow.{FitResultRow}
+use Rattle.fit_runs.specs.Runs.{rows_at}
+use Rattle.grid_rows.specs.FitResultRow.{row_at}
+use Rattle.grid_rows.specs.declared.FitResultRow.{FitResultRow}
 
 length_rows : (l : List Float) (i : ℕ) → length (rows_at l i) ≡ i
 unfolding rows_at

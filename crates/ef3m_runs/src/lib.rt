@@ -2,13 +2,14 @@
 #![tactic(auto)]
 
 ghost use Rattle.std.specs.Prelude.{◌≡◌, ◌++◌, ◌+◌, ◌*◌, ◌≤◌, length, drop};
-ghost use Rattle.fit_runs.specs.Runs.{mp_fit, mp_rows, row_at, rows_at};
+ghost use Rattle.fit_runs.specs.Runs.{mp_fit, mp_rows, rows_at};
+ghost use Rattle.grid_rows.specs.FitResultRow.{row_at};
 
-use fit_runs::Filled;
 use grid::FitResultRow;
+use refusal::Refusal;
 use walk::M2N;
 
-// Row i of flat numbers.
+// Row i of flat numbers, six a row.
 fn row_at(flat: &[f64], i: usize) -> FitResultRow
     requires { 6 * i + 6 ≤ length flat.now }
     ensures { result ≡ row_at flat.now i }
@@ -28,30 +29,27 @@ fn fill(rows: &mut [FitResultRow], flat: &[f64], n: usize)
     requires { (n ≤ length rows.old) × (6 * n ≤ length flat.now) }
     ensures { rows.new ≡ rows_at flat.now n ++ drop n rows.old }
 {
-    let mut i = 0;
-    while i < n {
+    for i in 0..n {
         rows[i] = row_at(flat, i);
-        i += 1;
     }
 }
 
 // Several runs, whose rows go into the first of the lent ones.
-pub fn mp_fit(m: M2N, weights: &[f64], rows: &mut [FitResultRow]) -> Filled
+pub fn mp_fit(m: M2N, weights: &[f64], rows: &mut [FitResultRow]) -> Result<usize, Refusal>
     ensures { (result ≡ mp_fit m weights.now (length rows.old))
         × (rows.new ≡ mp_rows m weights.now rows.old) }
 {
-    let r = fit_runs::mp_fit_flat(m, weights, rows.len());
-    let flat = r.numbers;
-    let n = r.count;
-    fill(rows, &flat, n);
-    r.outcome
+    let flat = fit_runs::mp_fit_flat(m, weights, rows.len());
+    let n = flat.outcome?;
+    fill(rows, &flat.numbers, n);
+    Ok(n)
 }
 
 // 64 rows after several runs, and how many of them are new.
 #[derive(Clone, Copy)]
 pub struct Runs {
     pub rows: [FitResultRow; 64],
-    pub outcome: Filled,
+    pub outcome: Result<usize, Refusal>,
 }
 
 // mp_fit by value: it is lent the 64 rows, and what it left in them is handed back.
@@ -60,8 +58,5 @@ pub fn mp_fit_through(m: M2N, weights: &[f64], rows: [FitResultRow; 64]) -> Runs
 {
     let mut t = rows;
     let outcome = mp_fit(m, weights, &mut t);
-    Runs {
-        rows: t,
-        outcome: outcome,
-    }
+    Runs { rows: t, outcome }
 }

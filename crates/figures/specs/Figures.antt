@@ -1,7 +1,7 @@
 -- Document 01's starred figures as one table, in its order and under its words, and the statement that every one of them holds.
 -- A row's left side is the definition that the contract of the function names, on the figure's arguments. So a row is a fact about
 -- the code: `iter_4` ensures r ≡ iter4 .., and answers what stands on the right of the rows of iter4.
-use Rattle.std.specs.Prelude.{◌≡◌, refl, true, false, List, [], ◌∷◌, ℕ, ◌+◌, ◌*◌, Float, replicate, Ok}
+use Rattle.std.specs.Prelude.{◌≡◌, refl, true, false, List, [], ◌∷◌, ℕ, ◌+◌, ◌*◌, Float, replicate, Ok, Result}
 use Rattle.std.specs.Float.{nan, inf, binary64}
 use Rattle.std.specs.Float.Ieee.{round, of_bits}
 use Rattle.moments.specs.Mixture.{get_moments}
@@ -10,8 +10,7 @@ use Rattle.moments.specs.declared.Five.{Five}
 use Rattle.moments.specs.declared.Params.{Params}
 use Rattle.prices.specs.Prices.{get_w_sigmoid, inv_price_sigmoid}
 use Rattle.limit_price.specs.LimitPrice.{limit_price_sigmoid}
-use Rattle.limit_price.specs.declared.Limit.{Limit}
-use Rattle.limit_price.specs.declared.Limit.TheVariants.{Price}
+use Rattle.refusal.specs.declared.Refusal.{Refusal}
 use Rattle.iterate.specs.Refusals.{iter4, iter5}
 use Rattle.step.specs.declared.Step.TheVariants.{Admitted, Inadmissible}
 
@@ -59,7 +58,7 @@ abbrev pub two_five : List Float
 two_five = listed (2 · 0, 5 · 0, 14 · 0, 41 · 0, 122 · 0)
 
 -- a limit price with forecast 100, width 3, limit 2, from 0
-abbrev pub limit_price_to : Float → Limit
+abbrev pub limit_price_to : Float → Result Float Refusal
 limit_price_to t = limit_price_sigmoid t (0 · 0) (100 · 0) (3 · 0) (2 · 0)
 
 -- ---- the table
@@ -94,10 +93,10 @@ table =
     -- `inv_price_sigmoid` of (100, 3, 0.5): 99.
     ∷ inv_price_sigmoid (100 · 0) (3 · 0) (0 · 5) ⇒ 99 · 0
     -- Limit price, forecast 100, width 3, limit 2, from 0 to 1: 99; to −1: 101; to 2: minus infinity; to 0.9: NaN, since lots are cut towards zero and none is walked.
-    ∷ limit_price_to (1 · 0) ⇒ Price (99 · 0)
-    ∷ limit_price_to minus_one ⇒ Price (101 · 0)
-    ∷ limit_price_to (2 · 0) ⇒ Price (inf true)
-    ∷ limit_price_to (0 · 9) ⇒ Price nan
+    ∷ limit_price_to (1 · 0) ⇒ Ok (99 · 0)
+    ∷ limit_price_to minus_one ⇒ Ok (101 · 0)
+    ∷ limit_price_to (2 · 0) ⇒ Ok (inf true)
+    ∷ limit_price_to (0 · 9) ⇒ Ok nan
     ∷ []
 
 unfoldable pub Figures : Type 0

@@ -12,6 +12,7 @@ use Rattle.moments.specs.Figures.{whole, half, params}
 use Rattle.moments.specs.Mixture.{get_moments}
 use Rattle.moments.specs.Orders.{centred_sum}
 use Rattle.step.specs.Steps.{step_4, step_5}
+use Rattle.refusal.specs.Numbers.{status_of}
 use Rattle.walk.specs.Trail.{step_for}
 use Rattle.walk.specs.Walk.{error_of, walk_of}
 use Rattle.walk.specs.declared.M2N.{M2N}
@@ -46,7 +47,7 @@ unfolding rows_of upper_of larger_of div lt round to_unsigned
 rows_at = refl
 
 abbrev refusal_at : ℕ → ℕ
-refusal_at n = grid_refusal (on_M 1 (part n)) (part n) 1 []
+refusal_at n = status_of (grid_refusal (on_M 1 (part n)) (part n) 1 [])
 
 pub refusals_at : (refusal_at 1 ∷ refusal_at 2 ∷ refusal_at 131072 ∷ refusal_at 262144 ∷ []) ≡ 0 ∷ 6 ∷ 6 ∷ 5 ∷ []
 unfolding grid_refusal rows_of upper_of larger_of sub div eq lt round to_unsigned

@@ -3,16 +3,16 @@ use mathlib.Core.Path.{◌≡◌, refl, sym, ap, ◌∙◌}
 use mathlib.Core.List.{List, [], ◌∷◌, ◌++◌, append-nil}
 use Prim.Native.Nat.{ℕ, zero, suc, ◌+◌, ◌*◌, ◌-◌, ◌≤◌, ◌<◌}
 use native.Mathlib.Omega.{arith}
-use native.Mathlib.Numerals.{add-one, add-two, add-three, add-four, add_five, add_six}
+use native.Mathlib.Numerals.{add_six}
 use lib.ListN.{length, get_or, take, replicate, length-append, length-replicate}
-use lib.Seq.{sets, sets-eq, take-append_seam, drop-append-add, take-suc, take-length}
+use lib.Seq.{take-append_seam, drop-append-add, take-suc, take-length}
 use lib.Ieee.{Float, nan}
 use Rattle.float.specs.Constants.{nought}
-use Rattle.fit_runs.specs.Runs.{rows_out, six, flat_of, flat_in64, put_in, row_at, rows_at}
-use Rattle.grid.specs.declared.Best.TheVariants.{Row, Nothing}
-use Rattle.grid.specs.declared.FitResultRow.{FitResultRow}
-use Rattle.grid.specs.declared.Outcome.{Outcome}
-use Rattle.grid.specs.declared.Outcome.TheVariants.{Refused, Ended}
+use Rattle.std.proofs.Common.{Option, Some, None, Result, Ok, Err, drop}
+use Rattle.refusal.specs.declared.Refusal.{Refusal}
+use Rattle.grid_rows.specs.FitResultRow.{six, row_at}
+use Rattle.grid_rows.specs.declared.FitResultRow.{FitResultRow}
+use Rattle.fit_runs.specs.Runs.{rows_out, flat_of, flat_in64, put_in, rows_at}
 
 -- ---- lengths
 pub length_flat : (rows : List FitResultRow) → length (flat_of rows) ≡ 6 * length rows
@@ -30,22 +30,22 @@ unfolding flat_of
 flat_snoc [] r = refl
 flat_snoc (q ∷ rows) r = ap (λ l. six q ++ l) (flat_snoc rows r)
 
--- six numbers stored over the six behind p
-six_behind : (p q : List Float) (a b c d e f : Float) (r : FitResultRow) → sets (p ++ a ∷ b ∷ c ∷ d ∷ e ∷ f ∷ q) (length p) (six r) ≡ (p ++ six r) ++ q
-six_behind p q a b c d e f r =
+-- six numbers in place of the six behind p
+six_behind : (p q : List Float) (a b c d e f : Float) (at : ℕ) (r : FitResultRow) → at ≡ length p → take at (p ++ a ∷ b ∷ c ∷ d ∷ e ∷ f ∷ q) ++ six r ++ drop (at + 6) (p ++ a ∷ b ∷ c ∷ d ∷ e ∷ f ∷ q) ≡ (p ++ six r) ++ q
+six_behind p q a b c d e f at r h =
     let l = a ∷ b ∷ c ∷ d ∷ e ∷ f ∷ q in
-    sets-eq (six r) (p ++ l) (length p) (omega (arith, length-append p l)) ∙ rw (take-append_seam p l, drop-append-add p l 6)
+    rw (h, take-append_seam p l, drop-append-add p l 6)
 
 six_less : (rows : List FitResultRow) (r : FitResultRow) → length rows < 64 → 384 - length (flat_of rows) ≡ suc (suc (suc (suc (suc (suc (384 - length (flat_of (rows ++ (r ∷ [])))))))))
 six_less rows r h = omega (arith, length_flat rows, length_flat (rows ++ (r ∷ [])), length-append rows (r ∷ []))
 
-pub put_flat : (rows : List FitResultRow) (o : Outcome) → length rows < 64 → put_in (flat_in64 rows) (length rows) o ≡ flat_in64 (rows ++ rows_out o)
+pub put_flat : (rows : List FitResultRow) (o : Result (Option FitResultRow) Refusal) → length rows < 64 → put_in (flat_in64 rows) (length rows) o ≡ flat_in64 (rows ++ rows_out o)
 unfolding flat_in64
-put_flat rows (Refused n) h = rw append-nil
-put_flat rows (Ended Nothing) h = rw append-nil
-put_flat rows (Ended (Row r)) h =
-    rw (add-one, add-two, add-three, add-four, add_five, ← length_flat rows, flat_in64, six_less rows r h)
-    (six_behind (flat_of rows) (replicate (384 - length (flat_of (rows ++ (r ∷ [])))) nought) nought nought nought nought nought nought r
+put_flat rows (Err e) h = rw append-nil
+put_flat rows (Ok None) h = rw append-nil
+put_flat rows (Ok (Some r)) h =
+    rw (six_less rows r h)
+    (six_behind (flat_of rows) (replicate (384 - length (flat_of (rows ++ (r ∷ [])))) nought) nought nought nought nought nought nought (6 * length rows) r (sym (length_flat rows))
     ∙ rw (flat_snoc rows r))
 
 -- ---- the rows read back

@@ -4,42 +4,26 @@
 ghost use Rattle.std.specs.Prelude.{◌≡◌, ◌+◌, ◌*◌, ◌≤◌, length};
 ghost use Rattle.fit_runs.specs.Runs.{Runnable, all_runs, flat_fit, put_in, rows_out};
 
-use grid::{Best, Epsilon, Outcome};
+use grid::FitResultRow;
+use refusal::Refusal;
 use walk::M2N;
 
-// Why no run was done, or how many rows there are.
-#[derive(Clone, Copy)]
-pub enum Filled {
-    Unfilled(u64),
-    Rows(usize),
-}
-
-// The rows of several runs as flat numbers, six each, zeros behind them.
+// The rows of several runs as flat numbers, six each, zeros behind them; and how many rows there are.
 #[derive(Clone, Copy)]
 pub struct Flat {
     pub numbers: [f64; 384],
-    pub count: usize,
-    pub outcome: Filled,
+    pub outcome: Result<usize, Refusal>,
 }
 
 // Puts a run's row, if it has one, behind the first `count`, and answers how many there are then.
-fn put(numbers: &mut [f64], count: usize, o: Outcome) -> usize
+fn put(numbers: &mut [f64], count: usize, o: Result<Option<FitResultRow>, Refusal>) -> usize
     requires { 6 * count + 6 ≤ length numbers.old }
     ensures { (result ≡ count + length (rows_out o)) × (numbers.new ≡ put_in numbers.old count o) }
 {
-    let Outcome::Ended(best) = o else {
+    let Ok(Some(row)) = o else {
         return count;
     };
-    let Best::Row(r) = best else {
-        return count;
-    };
-    let at = 6 * count;
-    numbers[at] = r.mu_1;
-    numbers[at + 1] = r.mu_2;
-    numbers[at + 2] = r.sigma_1;
-    numbers[at + 3] = r.sigma_2;
-    numbers[at + 4] = r.p_1;
-    numbers[at + 5] = r.error;
+    numbers[6 * count..6 * count + 6].copy_from_slice(&<[f64; 6]>::from(row));
     count + 1
 }
 
@@ -48,22 +32,16 @@ fn all(m: M2N, weights: &[f64]) -> Flat
     requires { Runnable m weights.now }
     ensures { result ≡ all_runs m weights.now }
 {
-    let n = m.n_runs;
     let rows = fit_refusals::rows_of(m.epsilon);
     let mut numbers = [0.0f64; 384];
     let mut count = 0;
-    let mut k = 0;
-    while k < n {
-        let from = k * rows;
-        let f = grid::single_fit_loop(m, Epsilon::Own, &weights[from..]);
-        let o = f.outcome;
-        count = put(&mut numbers, count, o);
-        k += 1;
+    for k in 0..m.n_runs {
+        let f = grid::single_fit_loop(m, None, &weights[k * rows..]);
+        count = put(&mut numbers, count, f.outcome);
     }
     Flat {
-        numbers: numbers,
-        count: count,
-        outcome: Filled::Rows(count),
+        numbers,
+        outcome: Ok(count),
     }
 }
 
@@ -72,12 +50,10 @@ fn all(m: M2N, weights: &[f64]) -> Flat
 pub fn mp_fit_flat(m: M2N, weights: &[f64], places: usize) -> Flat
     ensures { result ≡ flat_fit m weights.now places }
 {
-    let n = fit_refusals::of_runs(m, weights, places);
-    if n != 0 {
+    if let Err(refusal) = fit_refusals::check_runs(m, weights, places) {
         return Flat {
             numbers: [0.0f64; 384],
-            count: 0,
-            outcome: Filled::Unfilled(n),
+            outcome: Err(refusal),
         };
     }
     all(m, weights)

@@ -1,22 +1,16 @@
--- A row, and how the best fit so far becomes one. Definitions only.
-use Rattle.std.specs.Prelude.{List, ◌∷◌, Bool, ◌&&◌, cond, ℕ, zero, suc, get_or, replicate, Float}
+-- Where a search starts, and what is moved back to the mean after it. Definitions only.
+use Rattle.std.specs.Prelude.{List, ◌∷◌, Bool, ◌&&◌, cond, ℕ, zero, suc, get_or, map, replicate, Float, Option, Some, None}
+use Rattle.std.specs.List.{fold}
 use Rattle.std.specs.Float.{nan, binary64}
-use Rattle.std.specs.Float.Ieee.{add, mul, eq}
+use Rattle.std.specs.Float.Ieee.{add, mul, neg, eq, of_bits}
 use Rattle.float.specs.Constants.{nought, minus_nought}
 use Rattle.moments.specs.Mixture.{get_moments}
 use Rattle.moments.specs.Orders.{centred_sum}
 use Rattle.moments.specs.declared.Params.{Params}
 use Rattle.walk.specs.Walk.{error_of}
 use Rattle.walk.specs.declared.M2N.{M2N}
-use Rattle.grid.specs.declared.FitResultRow.{FitResultRow}
-use Rattle.grid.specs.declared.Best.{Best}
-use Rattle.grid.specs.declared.Best.TheVariants.{Row, Nothing}
-
-abbrev pub row_of : Params → Float → FitResultRow
-row_of p error = record { mu_1 = p.mu_1; mu_2 = p.mu_2; sigma_1 = p.sigma_1; sigma_2 = p.sigma_2; p_1 = p.p_1; error = error }
-
-abbrev pub params_of : FitResultRow → Params
-params_of r = record { mu_1 = r.mu_1; mu_2 = r.mu_2; sigma_1 = r.sigma_1; sigma_2 = r.sigma_2; p_1 = r.p_1 }
+use Rattle.grid_rows.specs.FitResultRow.{params_of, row_of}
+use Rattle.grid_rows.specs.declared.FitResultRow.{FitResultRow}
 
 -- the state with another tolerance, other parameters and their error
 abbrev pub with_best : M2N → Float → Params → Float → M2N
@@ -41,6 +35,10 @@ zeros = record { mu_1 = nought; mu_2 = nought; sigma_1 = nought; sigma_2 = nough
 unfoldable pub sum_of_squares : List Float → ℕ → Float
 sum_of_squares l zero = minus_nought
 sum_of_squares l (suc k) = add binary64 (sum_of_squares l k) (mul binary64 (get_or l k nan) (get_or l k nan))
+
+-- the squares of a list, as Rust's sum() of them
+abbrev pub squares_summed : List Float → Float
+squares_summed l = fold (λ a x. add binary64 a x) (neg (of_bits binary64 0)) (map (λ x. mul binary64 x x) l)
 
 -- the tolerance in force is stored, nothing is kept, and the error is the sum of all given squares
 unfoldable pub begun : M2N → Float → M2N
@@ -82,7 +80,7 @@ unfoldable pub moved_state : M2N → Float → Params → M2N
 unfolding begun moved_error
 moved_state m epsilon p = cond (all_zero p) (begun m epsilon) (with_best m epsilon (moved m p) (moved_error m p))
 
-unfoldable pub moved_best : M2N → Best → Best
+unfoldable pub moved_best : M2N → Option FitResultRow → Option FitResultRow
 unfolding moved_error
-moved_best m Nothing = Nothing
-moved_best m (Row r) = Row (row_of (moved m (params_of r)) (moved_error m (params_of r)))
+moved_best m None = None
+moved_best m (Some r) = Some (row_of (moved m (params_of r)) (moved_error m (params_of r)))

@@ -1,42 +1,31 @@
 -- One search over the grid (the Rust's single_fit_loop and centred_fit_loop). Definitions only.
-use Rattle.std.specs.Prelude.{List, Bool, ◌&&◌, not, cond, ℕ, zero, suc, ◌≤◌, eqb, length, get_or, Float}
+use Rattle.std.specs.Prelude.{List, Bool, ◌&&◌, not, cond, ◌≤◌, eqb, length, get_or, Float, Option, Ok, Err}
+use Rattle.std.specs.Option.{unwrap_or}
 use Rattle.std.specs.Float.{nan, binary64}
 use Rattle.std.specs.Float.Ieee.{eq}
 use Rattle.float.specs.Constants.{nought}
 use Rattle.float.specs.Root.{root}
 use Rattle.moments.specs.Orders.{centred_sum}
 use Rattle.walk.specs.declared.M2N.{M2N}
-use Rattle.fit_refusals.specs.Refusals.{rows_of, grid_refusal}
+use Rattle.fit_refusals.specs.Refusals.{Checked, rows_of, grid_refusal}
 use Rattle.grid_rows.specs.Rows.{search_to}
-use Rattle.grid_rows.specs.declared.Kept.{Kept}
-use Rattle.grid_rows.specs.declared.Kept.TheVariants as kept
 use Rattle.grid_rows.specs.declared.Search.{Search}
-use Rattle.grid.specs.Rows.{row_of, begun, centred_state, moved_state, moved_best}
-use Rattle.grid.specs.declared.Best.{Best}
-use Rattle.grid.specs.declared.Best.TheVariants.{Row, Nothing}
-use Rattle.grid.specs.declared.Epsilon.{Epsilon}
-use Rattle.grid.specs.declared.Epsilon.TheVariants.{Override, Own}
+use Rattle.grid.specs.Rows.{begun, centred_state, moved_state, moved_best}
 use Rattle.grid.specs.declared.search.Searched.{Searched}
-use Rattle.grid.specs.declared.Outcome.TheVariants.{Refused, Ended}
 use Rattle.grid.specs.declared.Fitted.{Fitted}
 
--- the epsilon in force
-abbrev pub in_force : M2N → Epsilon → Float
-in_force m (Override epsilon) = epsilon
-in_force m Own = m.epsilon
+-- the epsilon in force: one given for this search, or the state's own
+abbrev pub in_force : M2N → Option Float → Float
+in_force m e = unwrap_or e m.epsilon
 
 -- the standard deviation that the moments imply
 unfoldable pub deviation_of : M2N → Float
 unfolding centred_sum root
 deviation_of m = root binary64 (centred_sum m.moments 2)
 
--- the row that the walks kept
-abbrev pub best_of : Kept → Best
-best_of kept.Nothing = Nothing
-best_of (kept.Row p error) = Row (row_of p error)
-
+-- the state that the walks left, and the row that they kept
 abbrev pub found_by : Search → Searched
-found_by s = record { state = s.state; best = best_of s.best }
+found_by s = record { state = s.state; best = s.best }
 
 -- on the moments as given
 unfoldable pub plain_fit : M2N → Float → List Float → Searched
@@ -58,11 +47,11 @@ unfoldable pub fit_of : M2N → Float → List Float → Searched
 unfolding plain_fit centred_fit
 fit_of m epsilon weights = cond (is_centred m) (centred_fit m epsilon weights) (plain_fit m epsilon weights)
 
-abbrev pub answered : ℕ → M2N → Searched → Fitted
-answered zero m s = record { state = s.state; outcome = Ended s.best }
-answered (suc n) m s = record { state = m; outcome = Refused (suc n) }
+abbrev pub answered : Checked → M2N → Searched → Fitted
+answered (Ok u) m s = record { state = s.state; outcome = Ok s.best }
+answered (Err e) m s = record { state = m; outcome = Err e }
 
-unfoldable pub single_fit : M2N → Epsilon → List Float → Fitted
+unfoldable pub single_fit : M2N → Option Float → List Float → Fitted
 unfolding grid_refusal fit_of
 single_fit m e weights = answered (grid_refusal m (in_force m e) 1 weights) m (fit_of m (in_force m e) weights)
 

@@ -2,26 +2,23 @@
 // every weight 0.5: a line for each says how it ended. The rows are the Rust's.
 #![tactic(auto)]
 
-use grid::{Best, Epsilon, FitResultRow, Outcome};
+use grid::FitResultRow;
 use moments::{Five, Params};
+use refusal::Refusal;
 use std::io;
 use walk::M2N;
 
 fn on_m(variant: usize, epsilon: f64) -> M2N {
-    let mut m = [0.0f64; 16];
-    m[0] = 1.0;
-    m[1] = 4.5;
-    m[2] = 16.0;
-    m[3] = 81.5;
-    m[4] = 416.0;
-    let none = Five {
+    let mut moments = [0.0f64; 16];
+    moments[..5].copy_from_slice(&[1.0, 4.5, 16.0, 81.5, 416.0]);
+    let new_moments = Five {
         m_1: 0.0,
         m_2: 0.0,
         m_3: 0.0,
         m_4: 0.0,
         m_5: 0.0,
     };
-    let unfitted = Params {
+    let parameters = Params {
         mu_1: 0.0,
         mu_2: 0.0,
         sigma_1: 0.0,
@@ -29,15 +26,15 @@ fn on_m(variant: usize, epsilon: f64) -> M2N {
         p_1: 0.0,
     };
     M2N {
-        moments: m,
+        moments,
         len: 5,
-        epsilon: epsilon,
+        epsilon,
         factor: 1.0,
         n_runs: 1,
-        variant: variant,
+        variant,
         max_iter: 10,
-        new_moments: none,
-        parameters: unfitted,
+        new_moments,
+        parameters,
         error: 0.0,
     }
 }
@@ -57,26 +54,20 @@ fn put_row(out: &mut [u8], r: FitResultRow) -> usize {
     put_number(out, f, r.error)
 }
 
-fn put_refused(out: &mut [u8], number: u64) -> usize {
+fn put_refused(out: &mut [u8], refusal: Refusal) -> usize {
     let k = text_write::put(out, 0, b"refused ");
-    text_write::put_decimal(out, k, number)
+    text_write::put_decimal(out, k, u64::from(refusal))
 }
 
-fn put_best(out: &mut [u8], best: Best) -> usize {
-    match best {
-        Best::Nothing => text_write::put(out, 0, b"no row"),
-        Best::Row(r) => put_row(out, r),
-    }
-}
-
-fn put_outcome(out: &mut [u8], o: Outcome) -> usize {
+fn put_outcome(out: &mut [u8], o: Result<Option<FitResultRow>, Refusal>) -> usize {
     match o {
-        Outcome::Refused(number) => put_refused(out, number),
-        Outcome::Ended(best) => put_best(out, best),
+        Ok(Some(row)) => put_row(out, row),
+        Ok(None) => text_write::put(out, 0, b"no row"),
+        Err(refusal) => put_refused(out, refusal),
     }
 }
 
-fn tell(rt: &impl Print, name: &[u8], o: Outcome) -> io::Result<()> {
+fn tell(rt: &impl Print, name: &[u8], o: Result<Option<FitResultRow>, Refusal>) -> io::Result<()> {
     let mut out = [0u8; 128];
     let n = put_outcome(&mut out, o);
     if out.len() < n {
@@ -99,9 +90,8 @@ fn search(
     if weights.len() < n {
         return Ok(());
     }
-    let fitted = grid::single_fit_loop(on_m(variant, epsilon), Epsilon::Own, &weights[..n]);
-    let outcome = fitted.outcome;
-    tell(rt, name, outcome)
+    let fitted = grid::single_fit_loop(on_m(variant, epsilon), None, &weights[..n]);
+    tell(rt, name, fitted.outcome)
 }
 
 fn main(rt: HostRuntime) -> io::Result<()> {

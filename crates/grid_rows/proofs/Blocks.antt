@@ -1,14 +1,13 @@
 -- Rows a block at a time: each σ₂² put in its place, and a row whose σ₂² is below zero leaves the search as it was. Assumes nothing.
-use mathlib.Core.Path.{◌≡◌, refl, sym, ap, subst, ◌∙◌}
+use mathlib.Core.Path.{◌≡◌, refl, sym, ap, ◌∙◌}
 use mathlib.Core.List.{List}
 use mathlib.Core.Bool.{Bool, true, false, cond}
-use Prim.Native.Nat.{ℕ, zero, suc, ◌+◌, ◌≤◌, ◌<◌}
+use Prim.Native.Nat.{ℕ, zero, suc, ◌+◌}
 use native.Mathlib.Numerals.{add-one}
 use native.Mathlib.Omega.{arith}
-use lib.ListN.{length, get_or, set}
-use lib.Seq.{get_or-set_same, get_or-set_other}
+use lib.ListN.{get_or}
 use lib.Ieee.{Float, nan, lt}
-use borrow.Author.Count.{below_more}
+use Rattle.std.proofs.Common.{Some}
 use Rattle.float.specs.Constants.{nought}
 use Rattle.float.proofs.Order.{lt_irrefl}
 use Rattle.moments.specs.Figures.{listed}
@@ -19,12 +18,12 @@ use Rattle.walk.proofs.Trails.{five_enough}
 use Rattle.walk.specs.Walk.{five_of, walk_of}
 use Rattle.walk.specs.declared.M2N.{M2N}
 use Rattle.grid_rows.specs.Rows.{mean_of, looked, search_to}
-use Rattle.grid_rows.specs.declared.Kept.TheVariants.{Row}
+use Rattle.grid_rows.specs.FitResultRow.{row_of}
 use Rattle.grid_rows.specs.declared.Search.{Search}
 
 -- what `looked` chooses by its test
 abbrev seen : Bool → Search → M2N → Search
-seen b s x = cond b (record { state = x; err_min = x.error; best = Row x.parameters x.error }) (record { state = x; err_min = s.err_min; best = s.best })
+seen b s x = cond b (record { state = x; err_min = x.error; best = Some (row_of x.parameters x.error) }) (record { state = x; err_min = s.err_min; best = s.best })
 
 seen_state : (b : Bool) (s : Search) (x : M2N) → (seen b s x).state ≡ x
 seen_state true s x = refl
@@ -42,23 +41,8 @@ seen_least false s x e = e
 seen_again : (s : Search) → lt s.state.error s.err_min ≡ false → looked s s.state ≡ s
 seen_again s h = rw h
 
-pub plus_none : (a : ℕ) → a ≡ a + 0
-plus_none a = omega arith
-
 pub plus_one : (a b : ℕ) → a + b + 1 ≡ a + (b + 1)
 plus_one a b = omega arith
-
--- ---- a number put in place j of a list
--- what is known of each number before j, and of x, is known of each before j + 1
-pub put_more : (P : ℕ → Float → Type 0) (j : ℕ) (v : List Float) (x : Float) → j < length v → ((i : ℕ) → i < j → P i (get_or v i nan)) → P j x → (i : ℕ) → i < j + 1 → P i (get_or (set v j x) i nan)
-put_more P j v x h all hx = below_more (λ i. P i (get_or (set v j x) i nan)) j (λ i l. subst (P i) (sym (get_or-set_other v j i x nan (λ e. absurd (omega (arith, e, l))))) (all i l)) (subst (P j) (sym (get_or-set_same v j x nan h)) hx)
-
--- and those after it stay
-pub put_later : (j : ℕ) (u v : List Float) (x : Float) → ((i : ℕ) → j ≤ i → get_or v i nan ≡ get_or u i nan) → (i : ℕ) → j + 1 ≤ i → get_or (set v j x) i nan ≡ get_or u i nan
-put_later j u v x all i h = get_or-set_other v j i x nan (λ e. absurd (omega (arith, e, h))) ∙ all i (omega (arith, h))
-
-pub mean_is : (m : M2N) (deviation : Float) (i : ℕ) (x : Float) → x ≡ mean_of m deviation (i + 1) → x ≡ mean_of m deviation (suc i)
-mean_is m deviation i x h = h ∙ ap (mean_of m deviation) (add-one i)
 
 module _ (m : M2N) (deviation : Float) (weights : List Float) where
   -- ---- the search after i rows
@@ -89,10 +73,10 @@ module _ (m : M2N) (deviation : Float) (weights : List Float) where
       let negative = ap (λ y. lt (sigma2_squared y μ p) nought) (moments_stay i) ∙ ap (λ y. lt y nought) (sym its) ∙ h in
       hs ∙ sym (ap (looked t) (stays t.state μ p negative) ∙ seen_again t (least i)) ∙ ap (search_to m deviation weights) (sym (add-one i))
 
-  pub row_more : (i : ℕ) (s s' : Search) (μ : Float) → s ≡ search_to m deviation weights i → μ ≡ mean_of m deviation (i + 1) → s' ≡ looked s (walk_of s.state μ (get_or weights i nan)).state → s' ≡ search_to m deviation weights (i + 1)
+  pub row_more : (i : ℕ) (s s' : Search) (μ : Float) → s ≡ search_to m deviation weights i → μ ≡ mean_of m deviation (suc i) → s' ≡ looked s (walk_of s.state μ (get_or weights i nan)).state → s' ≡ search_to m deviation weights (i + 1)
   unfolding search_to
   row_more i s s' μ hs hμ h =
       h
-      ∙ ap (λ x. looked s (walk_of s.state x (get_or weights i nan)).state) (hμ ∙ ap (mean_of m deviation) (add-one i))
+      ∙ ap (λ x. looked s (walk_of s.state x (get_or weights i nan)).state) hμ
       ∙ ap (λ x. looked x (walk_of x.state (mean_of m deviation (suc i)) (get_or weights i nan)).state) hs
       ∙ ap (search_to m deviation weights) (sym (add-one i))

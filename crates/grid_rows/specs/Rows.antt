@@ -1,11 +1,11 @@
 -- The rows of a search (the loop of the Rust's single_fit_loop). Definitions only.
-use Rattle.std.specs.Prelude.{List, cond, ◌≡◌, ℕ, zero, suc, ◌+◌, ◌<◌, pos, get_or, Float}
+use Rattle.std.specs.Prelude.{List, cond, ◌≡◌, ℕ, zero, suc, ◌+◌, ◌<◌, pos, get_or, Float, Some, None}
 use Rattle.std.specs.Float.{nan, binary64}
 use Rattle.std.specs.Float.Ieee.{add, mul, of_int, lt}
 use Rattle.step.specs.Steps.{sigma2_squared}
 use Rattle.walk.specs.Walk.{walk_of}
 use Rattle.walk.specs.declared.M2N.{M2N}
-use Rattle.grid_rows.specs.declared.Kept.TheVariants.{Row, Nothing}
+use Rattle.grid_rows.specs.FitResultRow.{row_of}
 use Rattle.grid_rows.specs.declared.Search.{Search}
 
 -- the starting mean of row i: ((i * epsilon) * factor) * deviation + m_1
@@ -14,12 +14,12 @@ mean_of m deviation i = add binary64 (mul binary64 (mul binary64 (mul binary64 (
 
 -- the state after a row's walk: a strictly smaller error than any row's before it makes the row
 abbrev pub looked : Search → M2N → Search
-looked s m = cond (lt m.error s.err_min) (record { state = m; err_min = m.error; best = Row m.parameters m.error }) (record { state = m; err_min = s.err_min; best = s.best })
+looked s m = cond (lt m.error s.err_min) (record { state = m; err_min = m.error; best = Some (row_of m.parameters m.error) }) (record { state = m; err_min = s.err_min; best = s.best })
 
 -- the search after the first n rows; the error carries over from row to row
 unfoldable pub search_to : M2N → Float → List Float → ℕ → Search
 unfolding mean_of walk_of
-search_to m deviation weights zero = record { state = m; err_min = m.error; best = Nothing }
+search_to m deviation weights zero = record { state = m; err_min = m.error; best = None }
 search_to m deviation weights (suc i) =
     let s = search_to m deviation weights i in looked s (walk_of s.state (mean_of m deviation (suc i)) (get_or weights i nan)).state
 

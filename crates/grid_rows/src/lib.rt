@@ -4,16 +4,69 @@
 ghost use Rattle.std.specs.Prelude.{◌≡◌, ◌+◌, ◌≤◌, min, length};
 ghost use Rattle.moments.specs.Figures.{listed};
 ghost use Rattle.walk.specs.Walk.{walk_of};
+ghost use Rattle.grid_rows.specs.FitResultRow.{params_of, row_of, six};
 ghost use Rattle.grid_rows.specs.Rows.{Means, Variances, looked, mean_of, search_to};
 
 use moments::{Five, Params};
 use walk::M2N;
 
-// What the rows so far have kept: the parameters and the error of the best row, if there is one.
-#[derive(Clone, Copy)]
-pub enum Kept {
-    Nothing,
-    Row(Params, f64),
+// One fitted mixture.
+#[derive(Clone, Copy, Default)]
+pub struct FitResultRow {
+    pub mu_1: f64,
+    pub mu_2: f64,
+    pub sigma_1: f64,
+    pub sigma_2: f64,
+    pub p_1: f64,
+    pub error: f64,
+}
+
+impl FitResultRow {
+    pub fn new(p: Params, error: f64) -> FitResultRow
+        ensures { result ≡ row_of p error }
+    {
+        FitResultRow {
+            mu_1: p.mu_1,
+            mu_2: p.mu_2,
+            sigma_1: p.sigma_1,
+            sigma_2: p.sigma_2,
+            p_1: p.p_1,
+            error,
+        }
+    }
+}
+
+impl From<FitResultRow> for Params {
+    ghost from_gives = { λ row p. p ≡ params_of row };
+
+    fn from(row: FitResultRow) -> Params
+        ensures { result ≡ params_of row }
+    {
+        Params {
+            mu_1: row.mu_1,
+            mu_2: row.mu_2,
+            sigma_1: row.sigma_1,
+            sigma_2: row.sigma_2,
+            p_1: row.p_1,
+        }
+    }
+}
+
+impl From<FitResultRow> for [f64; 6] {
+    ghost from_gives = { λ row numbers. numbers ≡ six row };
+
+    fn from(row: FitResultRow) -> [f64; 6]
+        ensures { result ≡ six row }
+    {
+        [
+            row.mu_1,
+            row.mu_2,
+            row.sigma_1,
+            row.sigma_2,
+            row.p_1,
+            row.error,
+        ]
+    }
 }
 
 // The state, the smallest error of a row so far, and the row that has it.
@@ -21,10 +74,11 @@ pub enum Kept {
 pub struct Search {
     pub state: M2N,
     pub err_min: f64,
-    pub best: Kept,
+    pub best: Option<FitResultRow>,
 }
 
 // The starting mean of row i.
+#[tactic(auto, unfolding(crate::specs::Rows::mean_of))]
 fn mean_of(m: M2N, deviation: f64, i: usize) -> f64
     requires { i ≤ 131072 }
     ensures { result ≡ mean_of m deviation i }
@@ -37,18 +91,13 @@ fn look(s: Search, m: M2N) -> Search
     ensures { result ≡ looked s m }
 {
     if m.error < s.err_min {
-        let p = m.parameters;
-        return Search {
+        Search {
             state: m,
             err_min: m.error,
-            best: Kept::Row(p, m.error),
-        };
-    }
-    let best = s.best;
-    Search {
-        state: m,
-        err_min: s.err_min,
-        best: best,
+            best: Some(FitResultRow::new(m.parameters, m.error)),
+        }
+    } else {
+        Search { state: m, ..s }
     }
 }
 
@@ -58,11 +107,8 @@ fn means(m: M2N, deviation: f64, from: usize, k: usize) -> [f64; 256]
     ensures { Means m deviation from k result }
 {
     let mut u = [0.0f64; 256];
-    let mut j = 0;
-    while j < k {
-        let i = from + j;
-        u[j] = mean_of(m, deviation, i + 1);
-        j += 1;
+    for j in 0..k {
+        u[j] = mean_of(m, deviation, from + j + 1);
     }
     u
 }
@@ -74,11 +120,8 @@ fn variances(a: Five, u: [f64; 256], weights: &[f64], from: usize, k: usize) -> 
     ensures { Variances (listed a) u weights.now from k result }
 {
     let mut v = u;
-    let mut j = 0;
-    while j < k {
-        let i = from + j;
-        v[j] = step::sigma_2_squared(a, v[j], weights[i]);
-        j += 1;
+    for j in 0..k {
+        v[j] = step::sigma_2_squared(a, v[j], weights[from + j]);
     }
     v
 }
@@ -87,10 +130,7 @@ fn variances(a: Five, u: [f64; 256], weights: &[f64], from: usize, k: usize) -> 
 fn walk_row(s: Search, mu_2: f64, p_1: f64) -> Search
     ensures { result ≡ looked s (walk_of s.state mu_2 p_1).state }
 {
-    let state = s.state;
-    let w = walk::iterate_from(state, mu_2, p_1);
-    let after = w.state;
-    look(s, after)
+    look(s, walk::iterate_from(s.state, mu_2, p_1).state)
 }
 
 // k rows more, after the first `from`. Where sigma_2^2 is below zero the walk ends at its first step
@@ -102,41 +142,29 @@ fn walk_block(s: Search, m: M2N, deviation: f64, weights: &[f64], from: usize, k
     let u = means(m, deviation, from, k);
     let v = variances(walk::first_five(m), u, weights, from, k);
     let mut t = s;
-    let mut j = 0;
-    while j < k {
-        let i = from + j;
-        let x = v[j];
-        j += 1;
-        if x < 0.0 {
+    for j in 0..k {
+        if v[j] < 0.0 {
             continue;
         }
-        t = walk_row(t, mean_of(m, deviation, i + 1), weights[i]);
+        t = walk_row(t, u[j], weights[from + j]);
     }
     t
 }
 
-fn least(a: usize, b: usize) -> usize
-    ensures { result ≡ min a b }
-{
-    if a < b { a } else { b }
-}
-
 // A walk from each row's mean and weight; the error carries over. Of more weights than 131,072, which
 // is more than a search has rows, the first are walked from.
+#[tactic(auto, unfolding(crate::specs::Rows::search_to))]
 pub fn walk_rows(m: M2N, deviation: f64, weights: &[f64]) -> Search
     ensures { result ≡ search_to m deviation weights.now (min (length weights.now) 131072) }
 {
-    let n = least(weights.len(), 131072);
+    let n = usize::min(weights.len(), 131072);
     let mut s = Search {
         state: m,
         err_min: m.error,
-        best: Kept::Nothing,
+        best: None,
     };
-    let mut i = 0;
-    while i < n {
-        let k = least(n - i, 256);
-        s = walk_block(s, m, deviation, weights, i, k);
-        i += k;
+    for from in (0..n).step_by(256) {
+        s = walk_block(s, m, deviation, weights, from, usize::min(n - from, 256));
     }
     s
 }

@@ -1,3 +1,2 @@
 pub mod Limits
 pub mod Lots
-pub mod Walking

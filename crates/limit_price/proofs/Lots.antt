@@ -1,45 +1,19 @@
 -- Whole positions, the lots between them, and the sum over the lots. Assumes nothing.
-use mathlib.Core.Path.{◌≡◌, refl, sym, ap, ◌∙◌, subst}
-use mathlib.Core.Bool.{Bool, true, false}
-use Prim.Native.Nat.{ℕ, zero, suc, ◌+◌, ◌-◌, ◌*◌, ◌≤◌, ◌<◌}
+use mathlib.Core.Path.{◌≡◌, sym, ap, ◌∙◌, subst}
+use Prim.Native.Nat.{ℕ, zero, suc, min, ◌+◌, ◌*◌, ◌≤◌, ◌<◌}
 use native.Mathlib.Omega.{arith}
 use native.Mathlib.Numerals.{add-one}
-use lib.Dec.{ltb}
-use lib.IntN.{ℤ, pos, negsuc, neg_ℤ, nat_abs, sub_ℕ, ◌+ℤ◌, ◌*ℤ◌, suc_ℤ-*ℤ, zero-*ℤ, *ℤ-zero, *ℤ_comm, +ℤ_assoc, +ℤ_idr}
+use lib.IntN.{ℤ, pos, negsuc, nat_abs, ◌+ℤ◌, ◌*ℤ◌, suc_ℤ-*ℤ, *ℤ-zero, *ℤ_comm, +ℤ_assoc, +ℤ_idr}
+use Rattle.std.specs.Int.{int_signum}
+use Rattle.std.proofs.lemmas.Int.{ints}
 use mir.Syntax.{w64}
 use mir.Val.{to_z, of_z, SFits}
 use mir.ValLaws.{to_z-of_z}
-use borrow.Author.Tests.{ltb-true, ltb-false, le-ltb}
-use Rattle.float.specs.Keys.{key_of}
-use Rattle.float.proofs.Keys.{key_below, sub_above, sub_below}
 use Rattle.prices.specs.Prices.{◌⊕◌, ◌⊘◌, inv_price_sigmoid}
-use Rattle.limit_price.specs.LimitPrice.{sign_of, lot_number, lot_price, summed}
+use Rattle.limit_price.specs.LimitPrice.{lot_number, lot_price, summed}
 use lib.Ieee.{Float, binary64, of_int}
 
--- ---- the difference of two numbers
-pub sub_same : (a b : ℕ) → a ≡ b → sub_ℕ a b ≡ pos 0
-sub_same a b h = rw (le-ltb a b (omega arith)) (ap pos (omega arith))
-
-pub far_above : (a b : ℕ) → b < a → a - b ≡ nat_abs (sub_ℕ a b)
-far_above a b h = let e : a - b ≡ suc (a - suc b) = omega arith in e ∙ sym (ap nat_abs (sub_above a b h))
-
-pub far_below : (a b : ℕ) → a ≤ b → b - a ≡ nat_abs (sub_ℕ a b)
-far_below a b h = by (ltb a b) refl where
-  by : (t : Bool) → ltb a b ≡ t → b - a ≡ nat_abs (sub_ℕ a b)
-  by true e =
-      let l : a < b = ltb-true a b e in
-      let d : b - a ≡ suc (b - suc a) = omega arith in
-      d ∙ sym (ap nat_abs (sub_below a b l))
-  by false e =
-      let l : b ≤ a = ltb-false a b e in
-      let d : b - a ≡ 0 = omega arith in
-      d ∙ sym (ap nat_abs (sub_same a b (omega arith)))
-
 -- ---- the lots on the way
--- of direction 0, and number 0
-still : (c : ℤ) (i : ℕ) → lot_number c (pos 0) i ≡ c
-still c i = ap (λ z. c +ℤ z) (zero-*ℤ (pos i)) ∙ +ℤ_idr c
-
 pub lot_first : (c s : ℤ) → lot_number c s 0 ≡ c
 lot_first c s = ap (λ z. c +ℤ z) (*ℤ-zero s) ∙ +ℤ_idr c
 
@@ -49,43 +23,14 @@ lot_next c s i =
     let e : s *ℤ pos (suc i) ≡ s *ℤ pos i +ℤ s = *ℤ_comm s (pos (suc i)) ∙ suc_ℤ-*ℤ (pos i) s ∙ ap (λ z. z +ℤ s) (*ℤ_comm (pos i) s) in
     +ℤ_assoc c (s *ℤ pos i) s ∙ ap (λ z. c +ℤ z) (sym e) ∙ ap (lot_number c s) (sym (add-one i))
 
--- a difference fits where both of its numbers do
-sub-fits : (a b : ℕ) → a < 9223372036854775808 + b → b ≤ 9223372036854775808 + a → SFits w64 (sub_ℕ a b)
-sub-fits a b h g = by (ltb a b) refl where
-  by : (t : Bool) → ltb a b ≡ t → SFits w64 (sub_ℕ a b)
-  by true e =
-      let l : a < b = ltb-true a b e in
-      subst (SFits w64) (sym (sub_below a b l)) (record { sfits = omega arith })
-  by false e =
-      let l : b ≤ a = ltb-false a b e in
-      rw (le-ltb a b l) (record { sfits = omega arith })
-
-up_fits : (c : ℤ) (i : ℕ) → SFits w64 c → key_of c + i < 18446744073709551616 → SFits w64 (c +ℤ pos i)
-up_fits (pos a) i f h = record { sfits = omega arith }
-up_fits (negsuc a) i f h = sub-fits i (suc a) (omega (arith, f.sfits)) (omega (arith, f.sfits))
-
-down_fits : (c : ℤ) (i : ℕ) → SFits w64 c → i ≤ key_of c → SFits w64 (c +ℤ neg_ℤ (pos i))
-down_fits (pos a) zero f h = record { sfits = omega (arith, f.sfits) }
-down_fits (negsuc a) zero f h = sub-fits 0 (suc a) (omega (arith, f.sfits)) (omega (arith, f.sfits))
-down_fits (pos a) (suc i) f h = sub-fits a (suc i) (omega (arith, f.sfits)) (omega (arith, f.sfits))
-down_fits (negsuc a) (suc i) f h = record { sfits = omega (arith, f.sfits) }
-
-pub lots_fit : (c t : ℤ) (i : ℕ) → SFits w64 c → SFits w64 t → i ≤ nat_abs (sub_ℕ (key_of t) (key_of c)) → SFits w64 (lot_number c (sign_of (sub_ℕ (key_of t) (key_of c))) i)
-lots_fit c t i f g h = by (ltb (key_of c) (key_of t)) refl (ltb (key_of t) (key_of c)) refl where
-  by : (p : Bool) → ltb (key_of c) (key_of t) ≡ p → (q : Bool) → ltb (key_of t) (key_of c) ≡ q → SFits w64 (lot_number c (sign_of (sub_ℕ (key_of t) (key_of c))) i)
-  by true e q d =
-      let l : key_of c < key_of t = ltb-true (key_of c) (key_of t) e in
-      let one : 1 * i ≡ i = omega arith in
-      let near : i ≤ key_of t - key_of c = omega (arith, far_above (key_of t) (key_of c) l) in
-      rw (sub_above (key_of t) (key_of c) l, one) (up_fits c i f (omega (arith, key_below t g)))
-  by false e true d =
-      let l : key_of t < key_of c = ltb-true (key_of t) (key_of c) d in
-      let one : 1 * i ≡ i = omega arith in
-      let near : i ≤ key_of c - key_of t = omega (arith, far_below (key_of t) (key_of c) (omega arith)) in
-      rw (sub_below (key_of t) (key_of c) l, one) (down_fits c i f (omega arith))
-  by false e false d =
-      let same : key_of t ≡ key_of c = omega (arith, ltb-false (key_of c) (key_of t) e, ltb-false (key_of t) (key_of c) d) in
-      rw (sub_same (key_of t) (key_of c) same) (subst (SFits w64) (sym (still c i)) f)
+-- every lot up to the one that is d from c
+pub lots_fit : (c d : ℤ) (i : ℕ) → SFits w64 c → SFits w64 (c +ℤ d) → i ≤ nat_abs d → SFits w64 (lot_number c (int_signum d) i)
+lots_fit c (pos zero) i f g h = omega (arith, ints)
+lots_fit c (pos (suc n)) i f g h =
+    let one : min (suc n) 1 ≡ 1 = omega arith in
+    let e : min (suc n) 1 * i ≡ i = rw one (omega arith) in
+    omega (arith, ints, e)
+lots_fit c (negsuc n) i f g h = omega (arith, ints)
 
 -- ---- the sum
 pub sum_more : (f w max : Float) (current sgn : ℤ) (i : ℕ) (lot : ℤ) (sum x y : Float) → lot ≡ lot_number current sgn (i + 1) → x ≡ of_int binary64 lot → y ≡ inv_price_sigmoid f w (x ⊘ max)

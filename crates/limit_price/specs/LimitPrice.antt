@@ -1,17 +1,13 @@
 -- The limit price of chapter 10 of Advances in Financial Machine Learning: the Rust's limit_price_sigmoid, line by line, the mean of inv_price_sigmoid over the lots on the way. Definitions only.
-use Rattle.std.specs.Prelude.{cond, ℕ, zero, suc, ltb, ℤ, pos, negsuc, nat_abs, ◌+ℤ◌, ◌-ℤ◌, ◌*ℤ◌, Float}
+use Rattle.std.specs.Prelude.{cond, ℕ, zero, suc, ltb, ℤ, pos, nat_abs, ◌+ℤ◌, ◌-ℤ◌, ◌*ℤ◌, Float, Result, Ok, Err}
+use Rattle.std.specs.Int.{int_signum}
 use Rattle.std.specs.Float.{nan, binary64}
 use Rattle.std.specs.Float.Ieee.{of_int, to_signed}
 use Rattle.float.specs.Constants.{minus_nought}
 use Rattle.prices.specs.Prices.{◌⊕◌, ◌⊘◌, inv_price_sigmoid}
-use Rattle.limit_price.specs.declared.Limit.{Limit}
-use Rattle.limit_price.specs.declared.Limit.TheVariants.{Refused, Price}
-
--- Rust's signum
-abbrev pub sign_of : ℤ → ℤ
-sign_of (pos zero) = pos 0
-sign_of (pos (suc n)) = pos 1
-sign_of (negsuc n) = negsuc 0
+use Rattle.refusal.specs.Numbers.{unless_refused}
+use Rattle.refusal.specs.declared.Refusal.{Refusal}
+use Rattle.refusal.specs.declared.Refusal.TheVariants.{TooManyLots}
 
 -- the i-th lot on the way: current + sgn * i
 abbrev pub lot_number : ℤ → ℤ → ℕ → ℤ
@@ -30,19 +26,15 @@ abbrev pub mean_of : (ℕ → Float) → ℕ → Float
 mean_of x zero = nan
 mean_of x (suc n) = summed x (suc n) ⊘ of_int binary64 (pos (suc n))
 
--- the number of the refusal, 0 for none: 12, more than 1,000,000 lots to walk
-abbrev pub lots_refusal : ℕ → ℕ
-lots_refusal lots = cond (ltb 1000000 lots) 12 0
-
-abbrev pub limit_answer : ℕ → (ℕ → Float) → ℕ → Limit
-limit_answer zero x lots = Price (mean_of x lots)
-limit_answer (suc n) x lots = Refused (suc n)
+-- more than 1,000,000 lots are not walked
+abbrev pub lots_refusal : ℕ → Result (Unit {0}) Refusal
+lots_refusal lots = cond (ltb 1000000 lots) (Err TooManyLots) (Ok tt)
 
 -- the walk over d lots, of which a negative number goes down
-abbrev pub limit_from : Float → Float → Float → ℤ → ℤ → Limit
-limit_from f w max current d = limit_answer (lots_refusal (nat_abs d)) (lot_price f w max current (sign_of d)) (nat_abs d)
+abbrev pub limit_from : Float → Float → Float → ℤ → ℤ → Result Float Refusal
+limit_from f w max current d = unless_refused (lots_refusal (nat_abs d)) (mean_of (lot_price f w max current (int_signum d)) (nat_abs d))
 
 -- the positions are cut towards zero; their difference is one of whole numbers, so it is exact
-unfoldable pub limit_price_sigmoid : Float → Float → Float → Float → Float → Limit
+unfoldable pub limit_price_sigmoid : Float → Float → Float → Float → Float → Result Float Refusal
 unfolding summed
 limit_price_sigmoid t p f w max = limit_from f w max (to_signed 63 p) (to_signed 63 t -ℤ to_signed 63 p)

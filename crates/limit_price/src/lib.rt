@@ -2,79 +2,48 @@
 // another.
 #![tactic(auto)]
 
-ghost use Rattle.std.specs.Prelude.{◌≡◌, ℕ, ◌≤◌, nat_abs};
-ghost use Rattle.std.proofs.Math.IntN.{sub_ℕ};
+ghost use Rattle.std.specs.Prelude.{◌≡◌, ℕ, ◌≤◌};
 ghost use Rattle.std.specs.Int.{w64};
 ghost use Rattle.std.proofs.Common.{SFits};
-ghost use Rattle.limit_price.specs.LimitPrice.{limit_price_sigmoid, lot_number, lot_price, sign_of, summed};
+ghost use Rattle.limit_price.specs.LimitPrice.{limit_price_sigmoid, lot_number, lot_price, summed};
 
-mod blocks; // blocks.rt: the prices of 32 lots at a time
+use refusal::Refusal;
 
-// Refused by document 01's number, or the mean price of the lots walked.
-#[derive(Clone, Copy)]
-pub enum Limit {
-    Refused(u64),
-    Price(f64),
-}
-
-// How many lots lie between two keys.
-fn lots_between(from: u64, to: u64) -> u64
-    ensures { result ≡ nat_abs (sub_ℕ to from) }
-{
-    if from < to {
-        return to - from;
-    }
-    from - to
-}
-
-// The way from one key to another: 1 up, -1 down.
-fn direction(from: u64, to: u64) -> i64
-    ensures { result ≡ sign_of (sub_ℕ to from) }
-{
-    if from < to {
-        return 1;
-    }
-    if to < from {
-        return -1;
-    }
-    0
-}
-
-// The prices of the lots walked, summed as Rust's sum() does, from -0: whole blocks first.
+// The prices of the lots walked, summed as Rust's sum() does, from -0.
 fn sum_of_prices(f: f64, w: f64, max_pos: f64, current: i64, sgn: i64, lots: u64) -> f64
-    requires { ((i : ℕ) → i ≤ lots → SFits w64 (lot_number current sgn i)) × (nat_abs sgn ≤ 1) × (lots ≤ 1000000) }
+    requires { (i : ℕ) → i ≤ lots → SFits w64 (lot_number current sgn i) }
     ensures { result ≡ summed (lot_price f w max_pos current sgn) lots }
 {
-    let whole = blocks::blocks_of(f, current, lots);
-    let walked = blocks::walk(f, w, max_pos, current, sgn, whole);
-    let mut sum = walked.sum;
-    let mut lot = walked.lot;
-    let mut i: u64 = whole * 32;
-    while i < lots {
-        lot = lot + sgn;
-        sum = sum + prices::inv_price_sigmoid(f, w, number::i64_as_f64(lot) / max_pos);
-        i += 1;
+    let mut sum = -0.0;
+    let mut lot = current;
+    for _ in 0..lots {
+        lot += sgn;
+        sum += prices::inv_price_sigmoid(f, w, number::i64_as_f64(lot) / max_pos);
     }
     sum
 }
 
 // The mean price of the lots from pos to t_pos, both cut to whole lots; of none, NaN.
-pub fn limit_price_sigmoid(t_pos: f64, pos: f64, f: f64, w: f64, max_pos: f64) -> Limit
+pub fn limit_price_sigmoid(
+    t_pos: f64,
+    pos: f64,
+    f: f64,
+    w: f64,
+    max_pos: f64,
+) -> Result<f64, Refusal>
     ensures { result ≡ limit_price_sigmoid t_pos pos f w max_pos }
 {
     let target = number::as_i64(t_pos);
     let current = number::as_i64(pos);
-    // the difference of two positions may leave i64, that of their keys does not leave u64
-    let from = number::key(current);
-    let to = number::key(target);
-    let lots = lots_between(from, to);
+    // the difference of two positions may leave i64, its size does not leave u64
+    let lots = target.abs_diff(current);
     if lots == 0 {
-        return Limit::Price(0.0 / 0.0);
+        return Ok(f64::NAN);
     }
     if 1000000 < lots {
-        return Limit::Refused(12);
+        return Err(Refusal::TooManyLots);
     }
-    let sgn = direction(from, to);
+    let sgn = (target - current).signum();
     let total = sum_of_prices(f, w, max_pos, current, sgn, lots);
-    Limit::Price(total / lots as f64)
+    Ok(total / lots as f64)
 }

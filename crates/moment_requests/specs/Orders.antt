@@ -1,34 +1,24 @@
 -- The requests of moments, each by its words and what they come to; the reply to a line, and what the lent list holds after it. Definitions only.
-use Rattle.std.specs.Prelude.{ℕ, ◌-◌, ◌^◌, List, ◌++◌, Float, drop, take, Result, Ok, Err}
+use Rattle.std.specs.Prelude.{ℕ, ◌-◌, ◌^◌, List, ◌++◌, Float, Option, None, drop, take}
 use Rattle.moments.specs.Mixture as mixture
 use Rattle.moments.specs.Refusals as refusals
-use Rattle.refusal.specs.Numbers.{number_of}
-use Rattle.refusal.specs.declared.Refusal as refusal
 use Rattle.text.specs.Decode.{Got}
 use Rattle.protocol.specs.Words.{next_fraction, next_natural}
 use Rattle.protocol_lists.specs.Lists.{fraction_list, fractions, params_among}
-use Rattle.replies.specs.Requests.{◌>>=◌, after, named, only_or, reply}
+use Rattle.replies.specs.Requests.{◌>>=◌, after, named, only_or, or_refused, reply}
 use Rattle.replies.specs.declared.forms.Reply.{Reply}
-use Rattle.replies.specs.declared.forms.Reply.TheVariants.{Bad, Fraction, Listed, Moments, Refused}
+use Rattle.replies.specs.declared.forms.Reply.TheVariants.{Fraction, Listed, Moments}
 
 abbrev pub get_moments : List ℕ → Got Reply
 get_moments = do
   v ← fractions 5
   reply (Moments (mixture.get_moments (params_among v)))
 
-abbrev pub centred_reply : Result Float refusal.Refusal → Reply
-centred_reply (Ok x) = Fraction x
-centred_reply (Err e) = Refused (number_of e)
-
 abbrev pub centered_moment : List ℕ → Got Reply
 centered_moment = do
   order ← next_natural (2 ^ 64 - 1)
   m ← fraction_list
-  reply (centred_reply (refusals.centred_moment m order))
-
-abbrev pub raw_reply : Result ℕ refusal.Refusal → Reply
-raw_reply (Ok count) = Listed count count
-raw_reply (Err e) = Refused (number_of e)
+  reply (or_refused Fraction (refusals.centred_moment m order))
 
 -- what comes of raw_moment's words: the room that is asked for, the mean, the centred moments
 module _ {A : Type 0} where
@@ -41,16 +31,16 @@ module _ {A : Type 0} where
 
 -- the raw moments go into the first places of the lent list, as many as are asked for
 abbrev pub raw_moment : List Float → List ℕ → Got Reply
-raw_moment xs = raw_words (λ room mean c. raw_reply (refusals.raw_moment c (take room xs)))
+raw_moment xs = raw_words (λ room mean c. or_refused (λ count. Listed count count) (refusals.raw_moment c (take room xs)))
 
 abbrev pub raw_moment_in : List Float → List ℕ → Got (List Float)
 raw_moment_in xs = raw_words (λ room mean c. refusals.raw_out c mean (take room xs) ++ drop room xs)
 
-abbrev pub orders : List Float → List ℕ → Reply
+abbrev pub orders : List Float → List ℕ → Option Reply
 orders xs s =
     named "get_moments" get_moments s
     (named "centered_moment" centered_moment s
-    (named "raw_moment" (raw_moment xs) s Bad))
+    (named "raw_moment" (raw_moment xs) s None))
 
 -- a line that is no request of raw moments leaves the list as it was
 abbrev pub orders_in : List Float → List ℕ → List Float

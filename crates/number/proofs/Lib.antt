@@ -1,3 +1,3 @@
 -- Laws that belong to no one function.
-pub mod Casts
+pub mod Keys
 pub mod Sizes

@@ -2,7 +2,8 @@
 ghost use Rattle.std.specs.Prelude.{◌≡◌};
 ghost use Rattle.float.specs.Power.{power};
 
-// x to the n: squaring and multiplying from the lowest binary digit of n up.
+// x to the n: squaring and multiplying from the lowest binary digit of n up. The library's powi takes
+// an i32, and n is any usize here.
 pub fn powi(x: f64, n: usize) -> f64
     ensures { result ≡ power x n }
 {
@@ -11,12 +12,10 @@ pub fn powi(x: f64, n: usize) -> f64
     let mut b = n;
     while 0 < b {
         if b % 2 == 1 {
-            r = r * a;
+            r *= a;
         }
-        b = b / 2;
-        if 0 < b {
-            a = a * a;
-        }
+        a *= a;
+        b /= 2;
     }
     r
 }

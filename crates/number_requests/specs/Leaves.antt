@@ -1,5 +1,5 @@
 -- The requests of the number leaves, each by its words and what they come to, and the reply to a line. Definitions only.
-use Rattle.std.specs.Prelude.{ℕ, cond, List, Float, get_or}
+use Rattle.std.specs.Prelude.{ℕ, cond, List, Float, Option, None, get_or}
 use Rattle.std.specs.Float.{binary64, nan}
 use Rattle.std.specs.Float.Ieee.{of_int, to_signed, to_unsigned}
 use Rattle.float.specs.Leaves.{abs_of, finite, larger_of}
@@ -10,7 +10,7 @@ use Rattle.protocol.specs.Words.{next_fraction, next_instant, next_natural}
 use Rattle.protocol_lists.specs.Lists.{fractions}
 use Rattle.replies.specs.Requests.{◌>>=◌, named, reply}
 use Rattle.replies.specs.declared.forms.Reply.{Reply}
-use Rattle.replies.specs.declared.forms.Reply.TheVariants.{Bad, Fraction, Instant, Natural}
+use Rattle.replies.specs.declared.forms.Reply.TheVariants.{Fraction, Instant, Natural}
 
 abbrev first : List Float → Float
 first v = get_or v 0 nan
@@ -59,14 +59,14 @@ i64_as_f64 = do
   n ← next_instant
   reply (Fraction (of_int binary64 n))
 
-abbrev pub casts : List ℕ → Reply
+abbrev pub casts : List ℕ → Option Reply
 casts s =
     named "is_finite" is_finite s
     (named "as_i64" as_i64 s
     (named "as_usize" as_usize s
-    (named "i64_as_f64" i64_as_f64 s Bad)))
+    (named "i64_as_f64" i64_as_f64 s None)))
 
-abbrev pub leaves : List ℕ → Reply
+abbrev pub leaves : List ℕ → Option Reply
 leaves s =
     named "sqrt" sqrt s
     (named "abs" abs s

@@ -1,135 +1,99 @@
-// Requests of the number leaves. The function of each takes the request and the place after its
-// name.
-ghost use Rattle.std.specs.Prelude.{◌≡◌, drop};
+// Requests of the number leaves. The function of each takes the words after its name.
+ghost use Rattle.std.specs.Prelude.{◌≡◌};
 ghost use Rattle.number_requests.specs.Leaves.{abs, as_i64, as_usize, casts, i64_as_f64, is_finite, larger, leaves, powi, sqrt};
-ghost use Rattle.replies.specs.Requests.{only};
+ghost use Rattle.protocol.specs.Words.{only};
 
-use protocol::Fraction;
 use replies::Reply;
-use text::{Instant, Number};
 
-pub fn answer(s: &[u8]) -> Reply
+pub fn answer(s: &[u8]) -> Option<Reply>
     ensures { result ≡ leaves s.now }
 {
-    if protocol::begins(s, b"sqrt ") {
-        return sqrt(s, 4);
+    if let Some(words) = protocol::words_after(s, b"sqrt") {
+        return sqrt(words);
     }
-    if protocol::begins(s, b"abs ") {
-        return abs(s, 3);
+    if let Some(words) = protocol::words_after(s, b"abs") {
+        return abs(words);
     }
-    if protocol::begins(s, b"larger ") {
-        return larger(s, 6);
+    if let Some(words) = protocol::words_after(s, b"larger") {
+        return larger(words);
     }
-    if protocol::begins(s, b"powi ") {
-        return powi(s, 4);
+    if let Some(words) = protocol::words_after(s, b"powi") {
+        return powi(words);
     }
     of_casts(s)
 }
 
-fn of_casts(s: &[u8]) -> Reply
+fn of_casts(s: &[u8]) -> Option<Reply>
     ensures { result ≡ casts s.now }
 {
-    if protocol::begins(s, b"is_finite ") {
-        return is_finite(s, 9);
+    if let Some(words) = protocol::words_after(s, b"is_finite") {
+        return is_finite(words);
     }
-    if protocol::begins(s, b"as_i64 ") {
-        return as_i64(s, 6);
+    if let Some(words) = protocol::words_after(s, b"as_i64") {
+        return as_i64(words);
     }
-    if protocol::begins(s, b"as_usize ") {
-        return as_usize(s, 8);
+    if let Some(words) = protocol::words_after(s, b"as_usize") {
+        return as_usize(words);
     }
-    if protocol::begins(s, b"i64_as_f64 ") {
-        return i64_as_f64(s, 10);
+    if let Some(words) = protocol::words_after(s, b"i64_as_f64") {
+        return i64_as_f64(words);
     }
-    Reply::Bad
+    None
 }
 
-fn sqrt(s: &[u8], at: usize) -> Reply
-    ensures { result ≡ only (sqrt (drop at s.now)) }
+fn sqrt(words: &[u8]) -> Option<Reply>
+    ensures { result ≡ only (sqrt words.now) }
 {
-    let mut v = [0.0f64; 1];
-    if !protocol_lists::read_rest(s, at, &mut v) {
-        return Reply::Bad;
-    }
-    Reply::Fraction(root::sqrt(v[0]))
+    let [x] = protocol::only(protocol_lists::read_next_fractions::<1>(words))?;
+    Some(Reply::Fraction(root::sqrt(x)))
 }
 
-fn abs(s: &[u8], at: usize) -> Reply
-    ensures { result ≡ only (abs (drop at s.now)) }
+fn abs(words: &[u8]) -> Option<Reply>
+    ensures { result ≡ only (abs words.now) }
 {
-    let mut v = [0.0f64; 1];
-    if !protocol_lists::read_rest(s, at, &mut v) {
-        return Reply::Bad;
-    }
-    Reply::Fraction(number::abs(v[0]))
+    let [x] = protocol::only(protocol_lists::read_next_fractions::<1>(words))?;
+    Some(Reply::Fraction(number::abs(x)))
 }
 
-fn is_finite(s: &[u8], at: usize) -> Reply
-    ensures { result ≡ only (is_finite (drop at s.now)) }
+fn is_finite(words: &[u8]) -> Option<Reply>
+    ensures { result ≡ only (is_finite words.now) }
 {
-    let mut v = [0.0f64; 1];
-    if !protocol_lists::read_rest(s, at, &mut v) {
-        return Reply::Bad;
-    }
-    if number::is_finite(v[0]) {
-        return Reply::Natural(1);
-    }
-    Reply::Natural(0)
+    let [x] = protocol::only(protocol_lists::read_next_fractions::<1>(words))?;
+    Some(Reply::Natural(u64::from(number::is_finite(x))))
 }
 
-fn as_i64(s: &[u8], at: usize) -> Reply
-    ensures { result ≡ only (as_i64 (drop at s.now)) }
+fn as_i64(words: &[u8]) -> Option<Reply>
+    ensures { result ≡ only (as_i64 words.now) }
 {
-    let mut v = [0.0f64; 1];
-    if !protocol_lists::read_rest(s, at, &mut v) {
-        return Reply::Bad;
-    }
-    Reply::Instant(number::as_i64(v[0]))
+    let [x] = protocol::only(protocol_lists::read_next_fractions::<1>(words))?;
+    Some(Reply::Instant(number::as_i64(x)))
 }
 
-fn as_usize(s: &[u8], at: usize) -> Reply
-    ensures { result ≡ only (as_usize (drop at s.now)) }
+fn as_usize(words: &[u8]) -> Option<Reply>
+    ensures { result ≡ only (as_usize words.now) }
 {
-    let mut v = [0.0f64; 1];
-    if !protocol_lists::read_rest(s, at, &mut v) {
-        return Reply::Bad;
-    }
-    Reply::Natural(number::as_usize(v[0]) as u64)
+    let [x] = protocol::only(protocol_lists::read_next_fractions::<1>(words))?;
+    Some(Reply::Natural(number::as_usize(x) as u64))
 }
 
-fn larger(s: &[u8], at: usize) -> Reply
-    ensures { result ≡ only (larger (drop at s.now)) }
+fn larger(words: &[u8]) -> Option<Reply>
+    ensures { result ≡ only (larger words.now) }
 {
-    let mut v = [0.0f64; 2];
-    if !protocol_lists::read_rest(s, at, &mut v) {
-        return Reply::Bad;
-    }
-    Reply::Fraction(number::larger(v[0], v[1]))
+    let [x, y] = protocol::only(protocol_lists::read_next_fractions::<2>(words))?;
+    Some(Reply::Fraction(number::larger(x, y)))
 }
 
-fn i64_as_f64(s: &[u8], at: usize) -> Reply
-    ensures { result ≡ only (i64_as_f64 (drop at s.now)) }
+fn i64_as_f64(words: &[u8]) -> Option<Reply>
+    ensures { result ≡ only (i64_as_f64 words.now) }
 {
-    let Instant::Is(n, k) = protocol::read_next_instant(s, at) else {
-        return Reply::Bad;
-    };
-    if k < s.len() {
-        return Reply::Bad;
-    }
-    Reply::Fraction(number::i64_as_f64(n))
+    let n = protocol::only(protocol::read_next_instant(words))?;
+    Some(Reply::Fraction(number::i64_as_f64(n)))
 }
 
-fn powi(s: &[u8], at: usize) -> Reply
-    ensures { result ≡ only (powi (drop at s.now)) }
+fn powi(words: &[u8]) -> Option<Reply>
+    ensures { result ≡ only (powi words.now) }
 {
-    let Fraction::Is(x, k) = protocol::read_next_fraction(s, at) else {
-        return Reply::Bad;
-    };
-    let Number::Is(n, e) = protocol::read_next_natural(s, k, 16) else {
-        return Reply::Bad;
-    };
-    if e < s.len() {
-        return Reply::Bad;
-    }
-    Reply::Fraction(number::powi(x, n as usize))
+    let (x, rest) = protocol::read_next_fraction(words)?;
+    let n = protocol::only(protocol::read_next_natural(rest, 16))?;
+    Some(Reply::Fraction(number::powi(x, n as usize)))
 }

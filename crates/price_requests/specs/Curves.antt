@@ -1,14 +1,13 @@
 -- The requests of the sigmoid curve, each by its words and what they come to, and the reply to a line. Definitions only.
-use Rattle.std.specs.Prelude.{ℕ, List, Float, get_or}
+use Rattle.std.specs.Prelude.{ℕ, List, Float, Option, None, get_or}
 use Rattle.std.specs.Float.{nan}
 use Rattle.prices.specs.Prices.{get_w_sigmoid, inv_price_sigmoid}
 use Rattle.limit_price.specs.LimitPrice.{limit_price_sigmoid}
-use Rattle.limit_price.specs.declared.Limit as limit
 use Rattle.text.specs.Decode.{Got}
 use Rattle.protocol_lists.specs.Lists.{fractions}
-use Rattle.replies.specs.Requests.{◌>>=◌, named, reply}
+use Rattle.replies.specs.Requests.{◌>>=◌, named, or_refused, reply}
 use Rattle.replies.specs.declared.forms.Reply.{Reply}
-use Rattle.replies.specs.declared.forms.Reply.TheVariants.{Bad, Fraction, Refused}
+use Rattle.replies.specs.declared.forms.Reply.TheVariants.{Fraction}
 
 abbrev at : List Float → ℕ → Float
 at v i = get_or v i nan
@@ -23,17 +22,13 @@ inv_price = do
   v ← fractions 3
   reply (Fraction (inv_price_sigmoid (at v 0) (at v 1) (at v 2)))
 
-abbrev pub limit_reply : limit.Limit → Reply
-limit_reply (limit.TheVariants.Refused number) = Refused number
-limit_reply (limit.TheVariants.Price x) = Fraction x
-
 abbrev pub limit_price_reply : List ℕ → Got Reply
 limit_price_reply = do
   v ← fractions 5
-  reply (limit_reply (limit_price_sigmoid (at v 0) (at v 1) (at v 2) (at v 3) (at v 4)))
+  reply (or_refused Fraction (limit_price_sigmoid (at v 0) (at v 1) (at v 2) (at v 3) (at v 4)))
 
-abbrev pub curves : List ℕ → Reply
+abbrev pub curves : List ℕ → Option Reply
 curves s =
     named "w_sigmoid" w_sigmoid s
     (named "inv_price_sigmoid" inv_price s
-    (named "limit_price_sigmoid" limit_price_reply s Bad))
+    (named "limit_price_sigmoid" limit_price_reply s None))

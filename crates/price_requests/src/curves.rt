@@ -1,62 +1,45 @@
-// Requests of the sigmoid curve. The function of each takes the request and the place after its
-// name.
-ghost use Rattle.std.specs.Prelude.{◌≡◌, drop};
-ghost use Rattle.price_requests.specs.Curves.{curves, inv_price, limit_price_reply, limit_reply, w_sigmoid};
-ghost use Rattle.replies.specs.Requests.{only};
+// Requests of the sigmoid curve. The function of each takes the words after its name.
+ghost use Rattle.std.specs.Prelude.{◌≡◌};
+ghost use Rattle.protocol.specs.Words.{only};
+ghost use Rattle.price_requests.specs.Curves.{curves, inv_price, limit_price_reply, w_sigmoid};
 
-use limit_price::Limit;
 use replies::Reply;
 
-pub fn answer(s: &[u8]) -> Reply
+pub fn answer(s: &[u8]) -> Option<Reply>
     ensures { result ≡ curves s.now }
 {
-    if protocol::begins(s, b"w_sigmoid ") {
-        return w_sigmoid(s, 9);
+    if let Some(words) = protocol::words_after(s, b"w_sigmoid") {
+        return w_sigmoid(words);
     }
-    if protocol::begins(s, b"inv_price_sigmoid ") {
-        return inv_price_sigmoid(s, 17);
+    if let Some(words) = protocol::words_after(s, b"inv_price_sigmoid") {
+        return inv_price_sigmoid(words);
     }
-    if protocol::begins(s, b"limit_price_sigmoid ") {
-        return limit_price_sigmoid(s, 19);
+    if let Some(words) = protocol::words_after(s, b"limit_price_sigmoid") {
+        return limit_price_sigmoid(words);
     }
-    Reply::Bad
+    None
 }
 
-fn w_sigmoid(s: &[u8], at: usize) -> Reply
-    ensures { result ≡ only (w_sigmoid (drop at s.now)) }
+fn w_sigmoid(words: &[u8]) -> Option<Reply>
+    ensures { result ≡ only (w_sigmoid words.now) }
 {
-    let mut v = [0.0f64; 2];
-    if !protocol_lists::read_rest(s, at, &mut v) {
-        return Reply::Bad;
-    }
-    Reply::Fraction(prices::get_w_sigmoid(v[0], v[1]))
+    let [price_div, m_bet_size] = protocol::only(protocol_lists::read_next_fractions::<2>(words))?;
+    Some(Reply::Fraction(prices::get_w_sigmoid(price_div, m_bet_size)))
 }
 
-fn inv_price_sigmoid(s: &[u8], at: usize) -> Reply
-    ensures { result ≡ only (inv_price (drop at s.now)) }
+fn inv_price_sigmoid(words: &[u8]) -> Option<Reply>
+    ensures { result ≡ only (inv_price words.now) }
 {
-    let mut v = [0.0f64; 3];
-    if !protocol_lists::read_rest(s, at, &mut v) {
-        return Reply::Bad;
-    }
-    Reply::Fraction(prices::inv_price_sigmoid(v[0], v[1], v[2]))
+    let [f, w, m] = protocol::only(protocol_lists::read_next_fractions::<3>(words))?;
+    Some(Reply::Fraction(prices::inv_price_sigmoid(f, w, m)))
 }
 
-fn limit_reply(l: Limit) -> Reply
-    ensures { result ≡ limit_reply l }
+fn limit_price_sigmoid(words: &[u8]) -> Option<Reply>
+    ensures { result ≡ only (limit_price_reply words.now) }
 {
-    match l {
-        Limit::Refused(number) => Reply::Refused(number),
-        Limit::Price(x) => Reply::Fraction(x),
-    }
-}
-
-fn limit_price_sigmoid(s: &[u8], at: usize) -> Reply
-    ensures { result ≡ only (limit_price_reply (drop at s.now)) }
-{
-    let mut v = [0.0f64; 5];
-    if !protocol_lists::read_rest(s, at, &mut v) {
-        return Reply::Bad;
-    }
-    limit_reply(limit_price::limit_price_sigmoid(v[0], v[1], v[2], v[3], v[4]))
+    let [t_pos, pos, f, w, max_pos] = protocol::only(protocol_lists::read_next_fractions::<5>(
+        words,
+    ))?;
+    let limit = limit_price::limit_price_sigmoid(t_pos, pos, f, w, max_pos);
+    Some(limit.map_or_else(Reply::Refused, Reply::Fraction))
 }

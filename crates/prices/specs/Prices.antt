@@ -1,6 +1,6 @@
 -- Widths and prices on the sigmoid curve of chapter 10 of Advances in Financial Machine Learning: the Rust's get_w_sigmoid and inv_price_sigmoid, line by line, each operation rounded once. Definitions only.
-use Rattle.std.specs.Prelude.{Bool, true, false, ◌&&◌, ◌||◌, not, cond, Float}
-use Rattle.std.specs.Float.{nan, inf, fin, binary64}
+use Rattle.std.specs.Prelude.{Bool, ◌&&◌, ◌||◌, not, cond, Float}
+use Rattle.std.specs.Float.{binary64, float_is_infinite}
 use Rattle.std.specs.Float.Ieee.{add, sub, mul, div, lt, le, eq}
 use Rattle.float.specs.Constants.{nought, one}
 use Rattle.float.specs.Leaves.{abs_of, finite}
@@ -25,12 +25,6 @@ x ⊘ y = div binary64 x y
 
 abbrev pub √ : Float → Float
 √ x = root binary64 x
-
--- infinite, of either sign
-abbrev pub infinite : Float → Bool
-infinite nan = false
-infinite (inf s) = true
-infinite (fin s m e) = false
 
 -- ---- get_w_sigmoid
 abbrev pub plain_width : Float → Float → Float
@@ -57,7 +51,7 @@ denominator m = one ⊖ m ⊗ m
 
 -- the test for a quotient that overflowed, where w is finite and not below 0, and |m| below 1
 abbrev pub overflown : Float → Float → Float → Bool
-overflown quotient w m = infinite quotient && (finite w && (le nought w && lt (abs_of m) one))
+overflown quotient w m = float_is_infinite quotient && (finite w && (le nought w && lt (abs_of m) one))
 
 unfoldable pub inv_price_sigmoid : Float → Float → Float → Float
 inv_price_sigmoid f w m =

@@ -2,43 +2,24 @@
 #![tactic(auto)]
 
 ghost use Rattle.std.specs.Prelude.{◌≡◌};
-ghost use Rattle.prices.specs.Prices.{get_w_sigmoid, infinite, inv_price_sigmoid, overflown, spoilt, width_lost};
-
-// Infinite, of either sign.
-fn is_infinite(x: f64) -> bool
-    ensures { result ≡ infinite x }
-{
-    if number::is_finite(x) {
-        return false;
-    }
-    x == x
-}
+ghost use Rattle.prices.specs.Prices.{get_w_sigmoid, inv_price_sigmoid, overflown, spoilt, width_lost};
 
 // Not finite, or zero.
 fn is_spoilt(width: f64) -> bool
     ensures { result ≡ spoilt width }
 {
-    if number::is_finite(width) {
-        return width == 0.0;
-    }
-    true
+    !number::is_finite(width) || width == 0.0
 }
 
 // Whether a width was lost where the arguments have a better one.
 fn width_lost(width: f64, price_div: f64, size: f64) -> bool
     ensures { result ≡ width_lost width price_div size }
 {
-    if is_spoilt(width) {
-        if number::is_finite(price_div) {
-            if size > 0.0 {
-                return size < 1.0;
-            }
-        }
-    }
-    false
+    is_spoilt(width) && number::is_finite(price_div) && size > 0.0 && size < 1.0
 }
 
 // The width at which a divergence of price_div has the size m_bet_size.
+#[tactic(auto, unfolding(crate::specs::Prices::get_w_sigmoid))]
 pub fn get_w_sigmoid(price_div: f64, m_bet_size: f64) -> f64
     ensures { result ≡ get_w_sigmoid price_div m_bet_size }
 {
@@ -56,17 +37,14 @@ pub fn get_w_sigmoid(price_div: f64, m_bet_size: f64) -> f64
 fn overflown(quotient: f64, w_param: f64, m_bet_size: f64) -> bool
     ensures { result ≡ overflown quotient w_param m_bet_size }
 {
-    if is_infinite(quotient) {
-        if number::is_finite(w_param) {
-            if w_param >= 0.0 {
-                return number::abs(m_bet_size) < 1.0;
-            }
-        }
-    }
-    false
+    quotient.is_infinite()
+        && number::is_finite(w_param)
+        && w_param >= 0.0
+        && number::abs(m_bet_size) < 1.0
 }
 
 // The market price at which the size is m_bet_size.
+#[tactic(auto, unfolding(crate::specs::Prices::inv_price_sigmoid))]
 pub fn inv_price_sigmoid(forecast_price: f64, w_param: f64, m_bet_size: f64) -> f64
     ensures { result ≡ inv_price_sigmoid forecast_price w_param m_bet_size }
 {

@@ -1,12 +1,11 @@
 -- The line that answers a request, as docs/REQUESTS.md lists them: texts that are put one after another. Definitions only.
-use Rattle.std.specs.Prelude.{ℕ, List, [], ◌∷◌, ◌++◌, Float}
+use Rattle.std.specs.Prelude.{ℕ, List, [], ◌∷◌, ◌++◌, Float, Option, Some, None}
 use Rattle.text.specs.Bytes.{bytes}
 use Rattle.replies.specs.declared.forms.Reply as reply
 use Rattle.printing_values.specs.Values.{values}
 
 -- the word that a reply begins with
 abbrev pub head : reply.Reply → List ℕ
-head reply.TheVariants.Bad = bytes "bad"
 head (reply.TheVariants.Refused n) = bytes "refused"
 head (reply.TheVariants.Fraction x) = bytes "ok"
 head (reply.TheVariants.Natural n) = bytes "ok"
@@ -19,6 +18,7 @@ head (reply.TheVariants.Searched f) = bytes "ok"
 head (reply.TheVariants.Listed count n) = bytes "ok"
 head (reply.TheVariants.Spanned r) = bytes "ok"
 
--- a reply to the request s, beside which stands the list xs: its word, its values and a newline
-abbrev pub line : reply.Reply → List ℕ → List Float → List (List ℕ)
-line r s xs = head r ∷ values r s xs ++ (bytes "\n" ∷ [])
+-- a reply to the line s, beside which stands the list xs: its word, its values and a newline; or what says that the line is no request
+abbrev pub line : Option reply.Reply → List ℕ → List Float → List (List ℕ)
+line (Some r) s xs = head r ∷ values r s xs ++ (bytes "\n" ∷ [])
+line None s xs = bytes "bad" ∷ bytes "\n" ∷ []

@@ -14,11 +14,15 @@ pub fn put_bad(out: &mut [u8], at: usize) -> usize
     text_write::put(out, at, b"bad\n")
 }
 
-// Puts the reply to the request s, beside which stands the list xs, with its newline, and answers the
-// place after it.
-pub fn put(out: &mut [u8], at: usize, r: Reply, s: &[u8], xs: &[f64]) -> usize
+// Puts the answer to the line s, with its newline, and answers the place after it: its reply, beside
+// which stands the list xs, if the line is a request.
+pub fn put(out: &mut [u8], at: usize, r: Option<Reply>, s: &[u8], xs: &[f64]) -> usize
     ensures { Puts out.old out.new at result (line r s.now xs.now) }
 {
+    let Some(r) = r else {
+        let a = text_write::put(out, at, b"bad");
+        return text_write::put(out, a, b"\n");
+    };
     let a = put_head(out, at, r);
     let b = printing_values::put_values(out, a, r, s, xs);
     text_write::put(out, b, b"\n")
@@ -27,10 +31,10 @@ pub fn put(out: &mut [u8], at: usize, r: Reply, s: &[u8], xs: &[f64]) -> usize
 fn put_head(out: &mut [u8], at: usize, r: Reply) -> usize
     ensures { Placed out.old out.new at result (head r) }
 {
-    match r {
-        Reply::Bad => text_write::put(out, at, b"bad"),
-        Reply::Refused(_) => text_write::put(out, at, b"refused"),
-        Reply::Inadmissible => text_write::put(out, at, b"inadmissible"),
-        _ => text_write::put(out, at, b"ok"),
-    }
+    let word: &[u8] = match r {
+        Reply::Refused(_) => b"refused",
+        Reply::Inadmissible => b"inadmissible",
+        _ => b"ok",
+    };
+    text_write::put(out, at, word)
 }

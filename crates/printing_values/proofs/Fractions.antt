@@ -1,13 +1,11 @@
--- Fractions of a list as a loop puts them, and parts of the list. Assumes nothing.
-use Prim.Native.Nat.{ℕ, ◌+◌, ◌≤◌, ◌<◌, min}
+-- Fractions of a list as a loop puts them. Assumes nothing.
+use Prim.Native.Nat.{ℕ, ◌+◌, ◌≤◌, ◌<◌}
 use mathlib.Core.Path.{◌≡◌}
 use mathlib.Core.List.{List, [], ◌∷◌}
-use native.Mathlib.Decide.{dec_le}
-use native.Mathlib.Omega.{arith}
 use native.Mathlib.Numerals.{add-one}
 use lib.Ieee.{Float, binary64, nan, to_bits}
-use lib.ListN.{drop, drop_of_length-le, get_or, length, take}
-use lib.Seq.{drop-cons, take_all, take-length}
+use lib.ListN.{drop, drop_of_length-le, get_or, length}
+use lib.Seq.{drop-cons}
 use Rattle.text.specs.Bytes.{bytes}
 use Rattle.text.specs.Print.{Placed, hex}
 use Rattle.printing_values.specs.Texts.{Puts, fractions}
@@ -27,14 +25,3 @@ module _ {o : List ℕ} {at : ℕ} {ts : List (List ℕ)} (xs : List Float) (i :
   pub no_fraction : {o₁ : List ℕ} {k : ℕ} → length xs ≤ i → Left o at ts o₁ k (fractions (drop i xs)) → Puts o o₁ at k ts
   unfolding fractions
   no_fraction h l = left_none (rw (drop_of_length-le xs h) at l)
-
--- as many of a list as it has
-by_length : {A : Type 0} (n : ℕ) (xs : List A) → Dec (n ≤ length xs) → take (min n (length xs)) xs ≡ take n xs
-by_length n xs (yes h) = let e : min n (length xs) ≡ n = omega arith in rw e
-by_length n xs (no h) =
-    let e : min n (length xs) ≡ length xs = omega arith in
-    let l : length xs ≤ n = omega arith in
-    rw (e, take-length xs, take_all n xs)
-
-pub take_least : {A : Type 0} (n : ℕ) (xs : List A) → take (min n (length xs)) xs ≡ take n xs
-take_least n xs = by_length n xs (dec_le n (length xs))

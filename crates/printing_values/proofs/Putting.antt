@@ -60,9 +60,6 @@ pub record Left (o : List ℕ) (at : ℕ) (ts : List (List ℕ)) (o₁ : List �
   pub is : all_placed o at ts ≡ all_placed o₁ k us
   pub next : after_all o at ts ≡ after_all o₁ k us
 
-pub left_all : {o : List ℕ} {at : ℕ} {ts : List (List ℕ)} → Left o at ts o at ts
-left_all = record { same = refl; is = refl; next = refl }
-
 pub left_some : {o o₁ o₂ : List ℕ} {at k r : ℕ} {ts us vs : List (List ℕ)} → Left o at ts o₁ k (us ++ vs) → Puts o₁ o₂ k r us → Left o at ts o₂ r vs
 left_some {o₁ = o₁} {k = k} {us = us} {vs = vs} l p = record {
   same = ap length p.is ∙ all_long o₁ k us ∙ l.same;

@@ -12,19 +12,14 @@ use Rattle.protocol.specs.Words.{next_instant}
 use Rattle.protocol_lists.specs.Lists.{values_of}
 use Rattle.printing_values.specs.Rows.{row, rows_from, two}
 use Rattle.printing_values.specs.Texts.{Puts, fractions, instant}
-use Rattle.printing_values.proofs.Fractions.{take_least}
-use Rattle.printing_values.proofs.Putting.{Left, left_all, left_none, left_some, puts_then}
+use Rattle.std.proofs.lemmas.List.{take_min}
+use Rattle.printing_values.proofs.Putting.{Left, left_none, left_some, puts_then}
 
 -- no row has more than two fractions
 pub two_columns : (columns : ℕ) (xs : List Float) (i : ℕ) (ts : List ℤ) → rows_from (min columns 2) xs i ts ≡ rows_from columns xs i ts
 unfolding rows_from
 two_columns columns xs i [] = refl
-two_columns columns xs i (t ∷ ts) = rw (take_least columns (two xs i), two_columns columns xs (suc i) ts)
-
--- none is put
-pub rows_none : {o : List ℕ} {at : ℕ} (columns : ℕ) (xs : List Float) (n : ℕ) (s : List ℕ)
-    → Left o at (rows_from columns xs 0 (values_of next_instant n s)) o at (rows_from columns xs 0 (values_of next_instant (n - 0) s))
-rows_none columns xs n s = let m : n - 0 ≡ n = omega arith in rw m left_all
+two_columns columns xs i (t ∷ ts) = rw (take_min columns (two xs i), two_columns columns xs (suc i) ts)
 
 module _ (columns : ℕ) (xs : List Float) (n i : ℕ) (s : List ℕ) {o : List ℕ} {at : ℕ} {ts : List (List ℕ)} where
   -- one row more

@@ -1,41 +1,37 @@
 -- The values of a reply, as docs/REQUESTS.md lists them: texts that are put one after another, each value after a blank. Definitions only.
-use Rattle.std.specs.Prelude.{ℕ, cond, List, [], ◌∷◌, ◌++◌, Float, take}
-use Rattle.moments.specs.declared.Five.{Five}
-use Rattle.moments.specs.declared.Params.{Params}
+use Rattle.std.specs.Prelude.{ℕ, List, [], ◌∷◌, ◌++◌, Float, Option, Some, None, take}
+use Rattle.grid_rows.specs.declared.FitResultRow.{FitResultRow}
+use Rattle.moments.specs.Figures.{listed, params_listed}
+use Rattle.refusal.specs.Numbers.{number_of}
 use Rattle.text.specs.Bytes.{bytes}
 use Rattle.replies.specs.declared.forms.Report.{Report}
 use Rattle.replies.specs.declared.forms.Reply as reply
 use Rattle.replies.specs.declared.forms.Search.{Search}
+use Rattle.walk.specs.Reasons as reason
 use Rattle.printing_values.specs.Rows.{rows}
 use Rattle.printing_values.specs.Texts.{fractions, instant, natural}
 
-abbrev pub moments : Five → List Float
-moments m = m.m_1 ∷ m.m_2 ∷ m.m_3 ∷ m.m_4 ∷ m.m_5 ∷ []
-
-abbrev pub parameters : Params → List Float
-parameters p = p.mu_1 ∷ p.mu_2 ∷ p.sigma_1 ∷ p.sigma_2 ∷ p.p_1 ∷ []
-
 -- how a walk ended, and the state after it
 abbrev pub walked : Report → List (List ℕ)
-walked w = natural w.count ++ (natural w.reason ++ fractions (parameters w.parameters ++ (w.error ∷ moments w.new_moments)))
+walked w = natural w.ended.count ++ (natural (reason.number_of w.ended.reason) ++ fractions (params_listed w.state.parameters ++ (w.state.error ∷ listed w.state.new_moments)))
 
 -- the row that a search found, if it found one
-abbrev pub found : Search → List (List ℕ)
-found f = cond f.is_row (bytes " row" ∷ fractions (parameters f.row ++ (f.row_error ∷ []))) (bytes " none" ∷ [])
+abbrev pub found : Option FitResultRow → List (List ℕ)
+found (Some r) = bytes " row" ∷ fractions (r.mu_1 ∷ r.mu_2 ∷ r.sigma_1 ∷ r.sigma_2 ∷ r.p_1 ∷ r.error ∷ [])
+found None = bytes " none" ∷ []
 
 -- and the state after it
 abbrev pub searched : Search → List (List ℕ)
-searched f = found f ++ (bytes " state" ∷ fractions (parameters f.parameters ++ (f.error ∷ f.epsilon ∷ moments f.new_moments)))
+searched f = found f.row ++ (bytes " state" ∷ fractions (params_listed f.state.parameters ++ (f.state.error ∷ f.epsilon ∷ listed f.state.new_moments)))
 
 -- the values of a reply, for the request s and the list xs that stands beside the reply
 abbrev pub values : reply.Reply → List ℕ → List Float → List (List ℕ)
-values reply.TheVariants.Bad s xs = []
-values (reply.TheVariants.Refused n) s xs = natural n
+values (reply.TheVariants.Refused refusal) s xs = natural (number_of refusal)
 values (reply.TheVariants.Fraction x) s xs = fractions (x ∷ [])
 values (reply.TheVariants.Natural n) s xs = natural n
 values (reply.TheVariants.Instant i) s xs = instant i
-values (reply.TheVariants.Moments m) s xs = fractions (moments m)
-values (reply.TheVariants.Parameters p) s xs = fractions (parameters p)
+values (reply.TheVariants.Moments m) s xs = fractions (listed m)
+values (reply.TheVariants.Parameters p) s xs = fractions (params_listed p)
 values reply.TheVariants.Inadmissible s xs = []
 values (reply.TheVariants.Walked w) s xs = walked w
 values (reply.TheVariants.Searched f) s xs = searched f

@@ -17,22 +17,12 @@ pub fn put_values(out: &mut [u8], at: usize, r: Reply, s: &[u8], xs: &[f64]) -> 
     ensures { Puts out.old out.new at result (values r s.now xs.now) }
 {
     match r {
-        Reply::Bad => at,
-        Reply::Refused(n) => numbers::put_natural(out, at, n),
-        Reply::Fraction(x) => {
-            let v = [x];
-            numbers::put_fractions(out, at, &v)
-        }
+        Reply::Refused(refusal) => numbers::put_natural(out, at, u64::from(refusal)),
+        Reply::Fraction(x) => numbers::put_fractions(out, at, &[x]),
         Reply::Natural(n) => numbers::put_natural(out, at, n),
         Reply::Instant(i) => numbers::put_instant(out, at, i),
-        Reply::Moments(m) => {
-            let v = [m.m_1, m.m_2, m.m_3, m.m_4, m.m_5];
-            numbers::put_fractions(out, at, &v)
-        }
-        Reply::Parameters(p) => {
-            let v = [p.mu_1, p.mu_2, p.sigma_1, p.sigma_2, p.p_1];
-            numbers::put_fractions(out, at, &v)
-        }
+        Reply::Moments(m) => numbers::put_fractions(out, at, &<[f64; 5]>::from(m)),
+        Reply::Parameters(p) => numbers::put_fractions(out, at, &<[f64; 5]>::from(p)),
         Reply::Inadmissible => at,
         Reply::Walked(w) => states::put_walk(out, at, w),
         Reply::Searched(f) => states::put_search(out, at, f),

@@ -9,6 +9,6 @@ pub(crate) fn put(out: &mut [u8], at: usize, count: usize, n: usize, xs: &[f64])
     ensures { Puts out.old out.new at result (natural count ++ fractions (take n xs.now)) }
 {
     let k = numbers::put_natural(out, at, count as u64);
-    let most = protocol::least(n, xs.len());
+    let most = n.min(xs.len());
     numbers::put_fractions(out, k, &xs[..most])
 }

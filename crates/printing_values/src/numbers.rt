@@ -1,6 +1,7 @@
 // Numbers, each after a blank.
 ghost use Rattle.printing_values.specs.Texts.{Puts, fractions, instant, natural};
 
+// put_natural and put_instant stay two: a trait of what is printed, with its law, is longer than both.
 pub(crate) fn put_natural(out: &mut [u8], at: usize, n: u64) -> usize
     ensures { Puts out.old out.new at result (natural n) }
 {
@@ -19,11 +20,9 @@ pub(crate) fn put_fractions(out: &mut [u8], at: usize, xs: &[f64]) -> usize
     ensures { Puts out.old out.new at result (fractions xs.now) }
 {
     let mut k = at;
-    let mut i = 0;
-    while i < xs.len() {
+    for x in xs {
         k = text_write::put(out, k, b" ");
-        k = text_write::put_hex(out, k, text_bits::bits_of(xs[i]));
-        i += 1;
+        k = text_write::put_hex(out, k, text_bits::bits_of(*x));
     }
     k
 }

@@ -1,40 +1,39 @@
 // A row for each span. The starts of rows are read from the request again.
 ghost use Rattle.std.specs.Prelude.{◌≡◌, ◌++◌, get_or};
 ghost use Rattle.std.specs.Float.{nan};
-ghost use Rattle.printing_values.specs.Rows.{rows, two};
+ghost use Rattle.printing_values.specs.Rows.{rows, rows_from, starts, two};
 ghost use Rattle.printing_values.specs.Texts.{Puts, natural};
 
 use crate::numbers;
 use replies::SpanRows;
-use text::{Instant, Number};
 
 // How many, then the rows.
 pub(crate) fn put(out: &mut [u8], at: usize, r: SpanRows, s: &[u8], xs: &[f64]) -> usize
     ensures { Puts out.old out.new at result (natural r.count ++ rows r s.now xs.now) }
 {
     let k = numbers::put_natural(out, at, r.count as u64);
-    put_rows(out, k, r, s, xs)
+    let starts = &s[r.starts.min(s.len())..];
+    put_rows(out, k, r.columns, starts, xs)
 }
 
-fn put_rows(out: &mut [u8], at: usize, r: SpanRows, s: &[u8], xs: &[f64]) -> usize
-    ensures { Puts out.old out.new at result (rows r s.now xs.now) }
+// The rows, whose starts are the list at the front of s.
+fn put_rows(out: &mut [u8], at: usize, columns: usize, s: &[u8], xs: &[f64]) -> usize
+    ensures { Puts out.old out.new at result (rows_from columns xs.now 0 (starts s.now)) }
 {
-    let Number::Is(n, a) = protocol::read_next_natural(s, r.starts, u64::MAX) else {
+    let Some((n, starts)) = protocol::read_next_natural(s, u64::MAX) else {
         return at;
     };
-    let columns = protocol::least(r.columns, 2);
+    let most = columns.min(2);
     let mut to = at;
-    let mut k = a;
-    let mut i: u64 = 0;
-    while i < n {
-        let Instant::Is(t, e) = protocol::read_next_instant(s, k) else {
+    let mut rest = starts;
+    for i in 0..n {
+        let Some((t, after)) = protocol::read_next_instant(rest) else {
             return to;
         };
         to = numbers::put_instant(out, to, t);
         let v = two_at(xs, i as usize);
-        to = numbers::put_fractions(out, to, &v[..columns]);
-        k = e;
-        i += 1;
+        to = numbers::put_fractions(out, to, &v[..most]);
+        rest = after;
     }
     to
 }
@@ -50,8 +49,5 @@ fn two_at(xs: &[f64], i: usize) -> [f64; 2]
 fn entry(xs: &[f64], i: usize) -> f64
     ensures { result ≡ get_or xs.now i nan }
 {
-    if i < xs.len() {
-        return xs[i];
-    }
-    0.0 / 0.0
+    xs.get(i).copied().unwrap_or(f64::NAN)
 }

@@ -1,16 +1,20 @@
 -- The words of a request, decoded. Definitions only.
-use Rattle.std.specs.Prelude.{ℕ, Bool, true, false, List, ℤ, Float, drop}
+use Rattle.std.specs.Prelude.{ℕ, List, [], ◌∷◌, ℤ, Float, Option, Some, None}
 use Rattle.std.specs.Float.{binary64}
 use Rattle.std.specs.Float.Ieee.{of_bits}
 use Rattle.text.specs.Bytes.{bytes}
 use Rattle.text.specs.Decode.{Got, got, bad, ◌▷◌, word, hexes, instant, natural, up_to}
-use Rattle.protocol.specs.declared.Fraction as fraction
 
--- whether the bytes are of the form
+-- what follows a name, where a blank does: the bytes from the blank on
+abbrev pub words_after : List ℕ → List ℕ → Got (Unit {0})
+words_after name s = word name s ▷ (λ u words. word (bytes " ") words ▷ (λ v t. got tt words))
+
+-- the value, where nothing follows it
 module _ {A : Type 0} where
-  abbrev pub is_got : Got A → Bool
-  is_got (got a s) = true
-  is_got bad = false
+  abbrev pub only : Got A → Option A
+  only (got a []) = Some a
+  only (got a (b ∷ s)) = None
+  only bad = None
 
 -- a fraction: sixteen hexadecimal digits, the float's bits
 abbrev pub a_fraction : List ℕ → Got Float
@@ -25,8 +29,3 @@ next_natural limit s = word (bytes " ") s ▷ (λ u t. up_to limit (natural t))
 
 abbrev pub next_instant : List ℕ → Got ℤ
 next_instant s = word (bytes " ") s ▷ (λ u t. instant t)
-
--- what an answer says
-abbrev pub fraction_is : List ℕ → fraction.Fraction → Got Float
-fraction_is s (fraction.TheVariants.Is x k) = got x (drop k s)
-fraction_is s fraction.TheVariants.No = bad

@@ -2,72 +2,52 @@
 // crate `replies`; each crate of kinds of requests stands on these.
 #![tactic(auto)]
 
-ghost use Rattle.std.specs.Prelude.{min, ◌≡◌, drop};
-ghost use Rattle.text.specs.Decode.{word};
-ghost use Rattle.text.specs.Meaning.{instant_is, number_is};
-ghost use Rattle.protocol.specs.Words.{a_fraction, fraction_is, is_got, next_fraction, next_instant, next_natural};
+ghost use Rattle.std.specs.Prelude.{◌≡◌};
+ghost use Rattle.text.specs.Meaning.{got_of, left_of};
+ghost use Rattle.protocol.specs.Words.{a_fraction, next_fraction, next_instant, next_natural, only, words_after};
 
-use text::{Instant, Next, Number};
-
-// Whether a request begins with a name, which is given with the blank after it.
-pub fn begins(s: &[u8], name: &[u8]) -> bool
-    ensures { result ≡ is_got (word name.now s.now) }
+// The words of a request that begins with a name: what follows the name, from the blank on.
+pub fn words_after<'a>(s: &'a [u8], name: &[u8]) -> Option<&'a [u8]>
+    ensures { words_after name.now s.now ≡ left_of result }
 {
-    let n = text_read::read_word(s, 0, name);
-    match n {
-        Next::At(_) => true,
-        Next::No => false,
-    }
+    let words = text_read::read_word(s, name)?;
+    text_read::read_word(words, b" ")?;
+    Some(words)
 }
 
-// A fraction and the place after it.
-#[derive(Clone, Copy)]
-pub enum Fraction {
-    Is(f64, usize),
-    No,
+// What was read, where nothing follows it.
+pub fn only<T: Copy>(read: Option<(T, &[u8])>) -> Option<T>
+    ensures { result ≡ only (got_of read.entry) }
+{
+    let (value, rest) = read?;
+    if rest.is_empty() { Some(value) } else { None }
 }
 
-pub fn read_fraction(s: &[u8], at: usize) -> Fraction
-    ensures { a_fraction (drop at s.now) ≡ fraction_is s.now result }
+// A fraction.
+pub fn read_fraction(s: &[u8]) -> Option<(f64, &[u8])>
+    ensures { a_fraction s.now ≡ got_of result }
 {
-    let Number::Is(bits, k) = text_read::read_hex(s, at) else {
-        return Fraction::No;
-    };
-    Fraction::Is(text_bits::float_of(bits), k)
+    let (bits, rest) = text_read::read_hex(s)?;
+    Some((text_bits::float_of(bits), rest))
 }
 
 // The fraction after a blank.
-pub fn read_next_fraction(s: &[u8], at: usize) -> Fraction
-    ensures { next_fraction (drop at s.now) ≡ fraction_is s.now result }
+pub fn read_next_fraction(s: &[u8]) -> Option<(f64, &[u8])>
+    ensures { next_fraction s.now ≡ got_of result }
 {
-    let Next::At(k) = text_read::read_word(s, at, b" ") else {
-        return Fraction::No;
-    };
-    read_fraction(s, k)
+    read_fraction(text_read::read_word(s, b" ")?)
 }
 
 // The whole number up to `limit` after a blank.
-pub fn read_next_natural(s: &[u8], at: usize, limit: u64) -> Number
-    ensures { next_natural limit (drop at s.now) ≡ number_is s.now result }
+pub fn read_next_natural(s: &[u8], limit: u64) -> Option<(u64, &[u8])>
+    ensures { next_natural limit s.now ≡ got_of result }
 {
-    let Next::At(k) = text_read::read_word(s, at, b" ") else {
-        return Number::No;
-    };
-    text_read::read_natural(s, k, limit)
+    text_read::read_natural(text_read::read_word(s, b" ")?, limit)
 }
 
 // The instant after a blank.
-pub fn read_next_instant(s: &[u8], at: usize) -> Instant
-    ensures { next_instant (drop at s.now) ≡ instant_is s.now result }
+pub fn read_next_instant(s: &[u8]) -> Option<(i64, &[u8])>
+    ensures { next_instant s.now ≡ got_of result }
 {
-    let Next::At(k) = text_read::read_word(s, at, b" ") else {
-        return Instant::No;
-    };
-    text_read::read_instant(s, k)
-}
-
-pub fn least(a: usize, b: usize) -> usize
-    ensures { result ≡ min a b }
-{
-    if a < b { a } else { b }
+    text_read::read_instant(text_read::read_word(s, b" ")?)
 }

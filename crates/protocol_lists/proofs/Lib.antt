@@ -1,4 +1,3 @@
 -- Laws that belong to no one function, on plain values.
 pub mod Listing
 pub mod Reading
-pub mod Values

@@ -6,8 +6,9 @@ use mathlib.Core.List.{List, [], ◌∷◌}
 use native.Mathlib.Omega.{arith}
 use borrow.Author.Tests.{leb-true, leb-false}
 use lib.Dec.{leb}
-use lib.ListN.{drop, drop_of_length-le, length, set, take}
-use lib.Seq.{length-take-le, sets, take_all, take-nil}
+use lib.ListN.{drop, length, set, take}
+use lib.Seq.{length-sets, length-take-le, sets, take_all, take-nil}
+use Rattle.std.proofs.lemmas.List.{drop_min, take_min}
 use Rattle.text.specs.Decode.{Got, got, bad, ◌▷◌}
 use Rattle.protocol.specs.Words.{next_natural}
 use Rattle.protocol_lists.specs.Lists.{a_list, entries_of, in_front, list_in, list_of, many, or_none, values_of}
@@ -28,31 +29,13 @@ module _ {A : Type 0} where
   front (a ∷ vs) [] = rw (no_place vs 1)
   front (a ∷ vs) (o ∷ old) = rw (behind vs a old 0) (ap (λ (l : List A). a ∷ l) (front vs old))
 
--- ---- a part that begins or ends at n, or at the end of the list where n is past it, as protocol::least answers k
+-- ---- a part that begins or ends at n, or at the end of the list where n is past it, as `n.min(m.len())` answers k
 module _ {A : Type 0} (k n : ℕ) (m : List A) (e : k ≡ min n (length m)) where
-  take_by : (room : Bool) → leb n (length m) ≡ room → take k m ≡ take n m
-  take_by true h =
-      let l = leb-true n (length m) h in
-      let same : k ≡ n = omega arith in
-      rw same
-  take_by false h =
-      let l = leb-false n (length m) h in
-      take_all k m (omega arith) ∙ sym (take_all n m (omega arith))
-
-  drop_by : (room : Bool) → leb n (length m) ≡ room → drop k m ≡ drop n m
-  drop_by true h =
-      let l = leb-true n (length m) h in
-      let same : k ≡ n = omega arith in
-      rw same
-  drop_by false h =
-      let l = leb-false n (length m) h in
-      drop_of_length-le m {i = k} (omega arith) ∙ sym (drop_of_length-le m {i = n} (omega arith))
-
   pub take_least : take k m ≡ take n m
-  take_least = take_by (leb n (length m)) refl
+  take_least = rw (e, take_min n m)
 
   pub drop_least : drop k m ≡ drop n m
-  drop_least = drop_by (leb n (length m)) refl
+  drop_least = rw (e, drop_min n m)
 
 -- ---- what is the same for every list of more than n entries can be asked of n + 1 of them
 module _ {A B : Type 0} (n : ℕ) (f : List A → B) (x : B) (same : (m : List A) → n < length m → f m ≡ x) where
@@ -65,7 +48,7 @@ module _ {A B : Type 0} (n : ℕ) (f : List A → B) (x : B) (same : (m : List A
   pub cut : (m : List A) → f (take (suc n) m) ≡ f m
   cut m = by_length m (leb (length m) (suc n)) refl
 
--- ---- the list from t on, as protocol_lists::read_next_list and protocol_instants::read_next_instants read it
+-- ---- the list from t on, as protocol_lists::read_next_list reads it
 module _ {A : Type 0} (form : List ℕ → Got A) where
   -- its values
   abbrev pub listed : List ℕ → List A
@@ -106,5 +89,12 @@ module _ {A : Type 0} (form : List ℕ → Got A) where
     list_got = (by_count n u (next_natural (2 ^ 64 - 1) t) is).1
 
     -- what was read into the list old, v after it
-    pub list_front : (old v : List A) → v ≡ list_in form old t → take n v ≡ take (length old) (listed t)
+    list_front : (old v : List A) → v ≡ list_in form old t → take n v ≡ take (length old) (listed t)
     list_front old v e = rw (e, ← list_long) (front (listed t) old)
+
+    -- of it, those that had a place
+    pub list_first : (old : List A) {v : List A} {m places : ℕ} → v ≡ list_in form old t → m ≡ min n places → places ≡ length v
+        → take m v ≡ take places (listed t)
+    list_first old {v} {m} {places} e few long =
+        let same : length old ≡ places = sym (long ∙ ap length e ∙ (simp length-sets)) in
+        take_least _ _ _ (few ∙ ap (min n) long) ∙ list_front old v e ∙ ap (λ (l : ℕ). take l (listed t)) same

@@ -1,23 +1,18 @@
 -- Lists of words of a request, and the state, decoded. Definitions only.
-use Rattle.std.specs.Prelude.{ℕ, zero, suc, ◌-◌, ◌^◌, Bool, true, false, List, [], ◌∷◌, Float, ℤ, drop, get_or, length}
+use Rattle.std.specs.Prelude.{ℕ, zero, suc, ◌-◌, ◌^◌, List, [], ◌∷◌, Float, ℤ, get_or}
 use Rattle.std.specs.Float.{nan}
 use Rattle.std.proofs.lemmas.List.Edits.{sets}
 use Rattle.moments.specs.declared.Five.{Five}
 use Rattle.moments.specs.declared.Params.{Params}
 use Rattle.text.specs.Decode.{Got, got, bad, ◌▷◌}
 use Rattle.protocol.specs.Words.{next_fraction, next_instant, next_natural}
-use Rattle.protocol_lists.specs.declared.List as list
-use Rattle.protocol_lists.specs.declared.State as state
+use Rattle.protocol_lists.specs.declared.State.{State}
 
 -- n of a form
 module _ {A : Type 0} where
   unfoldable pub entries_of : (List ℕ → Got A) → ℕ → List ℕ → Got (Unit {0})
   entries_of form zero s = got tt s
   entries_of form (suc n) s = form s ▷ (λ x t. entries_of form n t)
-
--- n fractions, each after a blank
-abbrev pub entries : ℕ → List ℕ → Got (Unit {0})
-entries n s = entries_of next_fraction n s
 
 -- what follows from a value and the bytes after it; nothing where the bytes are not of the form
 module _ {A B : Type 0} where
@@ -36,29 +31,10 @@ module _ {A : Type 0} where
   abbrev pub in_front : List A → List A → List A
   in_front values old = sets old 0 values
 
--- what a lent list holds after as many fractions as it has places were to be read into it
-abbrev pub fractions_in : List Float → List ℕ → List Float
-fractions_in old s = in_front (values_of next_fraction (length old) s) old
-
-abbrev pub is_nil : List ℕ → Bool
-is_nil [] = true
-is_nil (b ∷ s) = false
-
--- whether nothing is left after them
-abbrev pub is_rest : Got (Unit {0}) → Bool
-is_rest (got u s) = is_nil s
-is_rest bad = false
-
 -- how many, and then so many of a form
 module _ {A : Type 0} where
   abbrev pub list_of : (List ℕ → Got A) → List ℕ → Got ℕ
   list_of form s = next_natural (2 ^ 64 - 1) s ▷ (λ n t. entries_of form n t ▷ (λ u v. got n v))
-
-abbrev pub next_list : List ℕ → Got ℕ
-next_list s = list_of next_fraction s
-
-abbrev pub next_instants : List ℕ → Got ℕ
-next_instants s = list_of next_instant s
 
 -- what a lent list holds after a list of a form was to be read into it
 module _ {A : Type 0} where
@@ -83,10 +59,6 @@ fraction_list s = a_list next_fraction s
 abbrev pub instant_list : List ℕ → Got (List ℤ)
 instant_list s = a_list next_instant s
 
--- a state: eleven fractions
-abbrev pub next_state : List ℕ → Got (List Float)
-next_state s = fractions 11 s
-
 -- the parameters and the moments among the numbers of a state
 abbrev pub params_among : List Float → Params
 params_among v = record { mu_1 = get_or v 0 nan; mu_2 = get_or v 1 nan; sigma_1 = get_or v 2 nan; sigma_2 = get_or v 3 nan; p_1 = get_or v 4 nan }
@@ -94,12 +66,6 @@ params_among v = record { mu_1 = get_or v 0 nan; mu_2 = get_or v 1 nan; sigma_1 
 abbrev pub moments_among : List Float → Five
 moments_among v = record { m_1 = get_or v 6 nan; m_2 = get_or v 7 nan; m_3 = get_or v 8 nan; m_4 = get_or v 9 nan; m_5 = get_or v 10 nan }
 
--- what an answer says
-abbrev pub state_is : List ℕ → state.State → Got (List Float)
-state_is s (state.TheVariants.Is p x m k) =
-    got (p.mu_1 ∷ p.mu_2 ∷ p.sigma_1 ∷ p.sigma_2 ∷ p.p_1 ∷ x ∷ m.m_1 ∷ m.m_2 ∷ m.m_3 ∷ m.m_4 ∷ m.m_5 ∷ []) (drop k s)
-state_is s state.TheVariants.No = bad
-
-abbrev pub list_is : List ℕ → list.List → Got ℕ
-list_is s (list.TheVariants.Is n k) = got n (drop k s)
-list_is s list.TheVariants.No = bad
+-- a state: eleven fractions
+abbrev pub next_state : List ℕ → Got State
+next_state s = fractions 11 s ▷ (λ v t. got (record { parameters = params_among v; error = get_or v 5 nan; new_moments = moments_among v }) t)

@@ -1,122 +1,120 @@
 // Lists in a request, and the state that one begins from.
 #![tactic(auto)]
 
-ghost use Rattle.std.specs.Prelude.{◌≡◌, drop, length, set};
-ghost use Rattle.text.specs.Meaning.{next_is};
-ghost use Rattle.protocol.specs.Words.{next_fraction};
-ghost use Rattle.protocol_lists.specs.Lists.{entries, fractions_in, is_rest, list_in, list_is, moments_among, next_list, next_state, params_among, state_is};
+ghost use Rattle.std.specs.Prelude.{◌≡◌, ℕ, List, set};
+ghost use Rattle.text.specs.Decode.{Got};
+ghost use Rattle.text.specs.Meaning.{got_of};
+ghost use Rattle.protocol.specs.Words.{next_fraction, next_instant};
+ghost use Rattle.protocol_lists.specs.Lists.{fractions, list_in, list_of, next_state};
 
 use moments::{Five, Params};
-use protocol::Fraction;
-use text::{Next, Number};
 
-// Reads fractions, as many as xs has places, each after a blank, and answers the place after them.
-pub fn read_next_fractions(s: &[u8], at: usize, xs: &mut [f64]) -> Next
-    ensures { (entries (length xs.old) (drop at s.now) ≡ next_is s.now result)
-        × (xs.new ≡ fractions_in xs.old (drop at s.now)) }
+// What a list holds, as its words are read.
+pub trait Entry: Copy {
+    ghost form: { List ℕ → Got Self };
+
+    // The entry after a blank.
+    fn read_next(s: &[u8]) -> Option<(Self, &[u8])>
+        ensures { form s.now ≡ got_of result };
+}
+
+impl Entry for f64 {
+    ghost form = { next_fraction };
+
+    fn read_next(s: &[u8]) -> Option<(f64, &[u8])> {
+        protocol::read_next_fraction(s)
+    }
+}
+
+impl Entry for i64 {
+    ghost form = { next_instant };
+
+    fn read_next(s: &[u8]) -> Option<(i64, &[u8])> {
+        protocol::read_next_instant(s)
+    }
+}
+
+// The list after a blank: how many entries, then so many. Those that have no place in xs are read and
+// left out.
+pub fn read_next_list<'a, T: Entry>(s: &'a [u8], xs: &mut [T]) -> Option<(usize, &'a [u8])>
+    ensures counted { list_of T.form s.now ≡ got_of result }
+    ensures kept { xs.new ≡ list_in T.form xs.old s.now }
 {
-    let n = xs.len();
-    let mut k = at;
-    let mut i = 0;
-    while i < n {
-        let Fraction::Is(x, e) = protocol::read_next_fraction(s, k) else {
-            return Next::No;
-        };
+    let (count, entries) = protocol::read_next_natural(s, u64::MAX)?;
+    let mut rest = entries;
+    for i in 0..count {
+        let (x, after) = T::read_next(rest)?;
+        keep(xs, i as usize, x);
+        rest = after;
+    }
+    Some((count as usize, rest))
+}
+
+// Puts x at the place i, where there is one.
+fn keep<T: Copy>(xs: &mut [T], i: usize, x: T)
+    ensures { xs.new ≡ set xs.old i x }
+{
+    if i < xs.len() {
         xs[i] = x;
-        k = e;
-        i += 1;
     }
-    Next::At(k)
 }
 
-// The same, where they are the rest of a request: answers whether they are.
-pub fn read_rest(s: &[u8], at: usize, xs: &mut [f64]) -> bool
-    ensures { (result ≡ is_rest (entries (length xs.old) (drop at s.now)))
-        × (xs.new ≡ fractions_in xs.old (drop at s.now)) }
+// N fractions, each after a blank.
+pub fn read_next_fractions<const N: usize>(s: &[u8]) -> Option<([f64; N], &[u8])>
+    ensures { fractions N s.now ≡ got_of result }
 {
-    let Next::At(k) = read_next_fractions(s, at, xs) else {
-        return false;
-    };
-    s.len() <= k
+    let mut xs = [0.0; N];
+    let mut rest = s;
+    for x in &mut xs {
+        let (value, after) = protocol::read_next_fraction(rest)?;
+        *x = value;
+        rest = after;
+    }
+    Some((xs, rest))
 }
 
-// A state: parameters, error, new moments, and the place after it.
+// A state.
 #[derive(Clone, Copy)]
-pub enum State {
-    Is(Params, f64, Five, usize),
-    No,
-}
-
-fn parameters_of(v: [f64; 11]) -> Params
-    ensures { result ≡ params_among v }
-{
-    Params {
-        mu_1: v[0],
-        mu_2: v[1],
-        sigma_1: v[2],
-        sigma_2: v[3],
-        p_1: v[4],
-    }
-}
-
-fn moments_of(v: [f64; 11]) -> Five
-    ensures { result ≡ moments_among v }
-{
-    Five {
-        m_1: v[6],
-        m_2: v[7],
-        m_3: v[8],
-        m_4: v[9],
-        m_5: v[10],
-    }
+pub struct State {
+    pub parameters: Params,
+    pub error: f64,
+    pub new_moments: Five,
 }
 
 // The state after a blank, eleven fractions.
-pub fn read_next_state(s: &[u8], at: usize) -> State
-    ensures { next_state (drop at s.now) ≡ state_is s.now result }
+pub fn read_next_state(s: &[u8]) -> Option<(State, &[u8])>
+    ensures { next_state s.now ≡ got_of result }
 {
-    let mut v = [0.0f64; 11];
-    let Next::At(k) = read_next_fractions(s, at, &mut v) else {
-        return State::No;
+    let (values, rest) = read_next_fractions::<11>(s)?;
+    let [
+        mu_1,
+        mu_2,
+        sigma_1,
+        sigma_2,
+        p_1,
+        error,
+        m_1,
+        m_2,
+        m_3,
+        m_4,
+        m_5,
+    ] = values;
+    let state = State {
+        parameters: Params {
+            mu_1,
+            mu_2,
+            sigma_1,
+            sigma_2,
+            p_1,
+        },
+        error,
+        new_moments: Five {
+            m_1,
+            m_2,
+            m_3,
+            m_4,
+            m_5,
+        },
     };
-    State::Is(parameters_of(v), v[5], moments_of(v), k)
-}
-
-// How many entries a list has, and the place after it.
-#[derive(Clone, Copy)]
-pub enum List {
-    Is(usize, usize),
-    No,
-}
-
-// The list of fractions after a blank: how many, then so many. Those that have no place in xs are
-// read and left out.
-pub fn read_next_list(s: &[u8], at: usize, xs: &mut [f64]) -> List
-    ensures { (next_list (drop at s.now) ≡ list_is s.now result)
-        × (xs.new ≡ list_in next_fraction xs.old (drop at s.now)) }
-{
-    let Number::Is(n, a) = protocol::read_next_natural(s, at, u64::MAX) else {
-        return List::No;
-    };
-    let mut k = a;
-    let mut i: u64 = 0;
-    while i < n {
-        let Fraction::Is(x, e) = protocol::read_next_fraction(s, k) else {
-            return List::No;
-        };
-        keep(xs, i, x);
-        k = e;
-        i += 1;
-    }
-    List::Is(n as usize, k)
-}
-
-// Those that have no place are left out.
-fn keep(xs: &mut [f64], i: u64, x: f64)
-    ensures { xs.new ≡ set xs.old i x }
-{
-    let at = i as usize;
-    if at < xs.len() {
-        xs[at] = x;
-    }
+    Some((state, rest))
 }

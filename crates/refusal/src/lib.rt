@@ -4,7 +4,7 @@
 ghost use Rattle.std.specs.Prelude.{◌≡◌};
 ghost use Rattle.refusal.specs.Numbers.{number_of, status_of};
 
-// The variants stand in the order of document 01's numbers, and each is its number.
+// The variants stand in the order of document 01's numbers, and each is its number. It has no 14.
 #[derive(Clone, Copy, Debug, PartialEq, Eq)]
 pub enum Refusal {
     TooFewMoments = 1,
@@ -33,7 +33,7 @@ impl From<Refusal> for u64 {
     }
 }
 
-// As C has an answer: 0, or the number of the refusal.
+// An answer as C has it: 0, or the number of the refusal.
 pub fn status_of<T: Copy>(answer: Result<T, Refusal>) -> u64
     ensures { result ≡ status_of answer }
 {

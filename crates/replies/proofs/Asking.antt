@@ -1,68 +1,69 @@
--- How a request is read: which name its line begins with, what its words are, and whether nothing follows them. By cases on what was read. Assumes nothing.
-use Prim.Native.Nat.{ℕ, ◌≤◌, ◌<◌}
-use mathlib.Core.Path.{◌≡◌, refl, sym, ◌∙◌, ap}
-use mathlib.Core.Bool.{Bool, true, false, not, cond}
-use mathlib.Core.List.{List, [], ◌∷◌}
-use borrow.Author.Tests.{eqb-true, not-true, not-false}
+-- How a request is read: what its line is by its name, and what its last word is. By cases. Assumes nothing.
+use Prim.Native.Nat.{ℕ}
+use mathlib.Core.Path.{◌≡◌, refl}
+use mathlib.Core.Bool.{Bool, true, false, cond}
+use mathlib.Core.List.{List, [], ◌∷◌, ◌++◌}
+use borrow.Author.Tests.{eqb-true}
 use lib.Dec.{eqb}
-use lib.Ieee.{Float, binary64, of_bits}
-use lib.ListN.{length, drop, drop_of_length-le, replicate, length-replicate}
-use lib.Seq.{drop-cons}
+use Rattle.std.specs.Prelude.{Some, None}
+use Rattle.text.specs.Bytes.{bytes}
 use Rattle.text.specs.Decode.{Got, got, bad, ◌▷◌, word}
-use Rattle.protocol.specs.Words.{is_got, next_fraction}
-use Rattle.protocol_lists.specs.Lists.{entries, fractions, fractions_in, is_rest, values_of}
-use Rattle.protocol_lists.proofs.Reading.{all_fractions}
-use Rattle.replies.specs.Requests.{only_or, only}
-use Rattle.replies.specs.declared.forms.Reply as reply
+use Rattle.protocol.specs.Words.{only, words_after}
+use Rattle.protocol_lists.specs.Lists.{a_list, list_of}
+use Rattle.protocol_lists.proofs.Listing.{list_got, no_list}
+use Rattle.replies.specs.Requests.{only_or}
 
--- ---- which name a line begins with, as protocol::begins answers b: r is what comes of the words (x), or of the names after it (y)
-module _ {A : Type 0} {b t : Bool} {r : A} where
-  pub named_yes : {x : A} (y : A) → b ≡ t → b ≡ true → r ≡ x → r ≡ cond t x y
-  named_yes y e h is = rw (sym e ∙ h) is
+-- the last word, where nothing follows it
+module _ {A : Type 0} where
+  pub only_some : (g : Got A) {a : A} → Some a ≡ only g → g ≡ got a []
+  only_some (got x []) e = cc
+  only_some (got x (b ∷ s)) e = cc
+  only_some bad e = cc
 
-  pub named_no : {y : A} (x : A) → b ≡ t → b ≡ false → r ≡ y → r ≡ cond t x y
-  named_no x e h is = rw (sym e ∙ h) is
+  pub only_none : {B : Type 0} (f : A → B) (g : Got A) → None ≡ only g → None ≡ only (g ▷ (λ a s. got (f a) s))
+  only_none f (got x []) e = cc
+  only_none f (got x (b ∷ s)) e = refl
+  only_none f bad e = refl
 
--- a line that begins with a name begins with none of another first letter
-module _ (c d : ℕ) (w v : List ℕ) where
-  by_letter : (b : ℕ) (s : List ℕ) (is : Bool) → eqb b c ≡ is → true ≡ is_got (cond is (word w s) bad) → eqb c d ≡ false → eqb b d ≡ false
-  by_letter b s true e h o = let same : b ≡ c = eqb-true b c e in rw same o
-  by_letter b s false e h o = cc
+  pub only_old : {B : Type 0} (f : A → B) (old : B) (g : Got A) → None ≡ only g → old ≡ only_or old (g ▷ (λ a s. got (f a) s))
+  only_old f old (got x []) e = cc
+  only_old f old (got x (b ∷ s)) e = refl
+  only_old f old bad e = refl
 
-  pub other_name : (s : List ℕ) {b : Bool} → b ≡ is_got (word (c ∷ w) s) → b ≡ true → eqb c d ≡ false → false ≡ is_got (word (d ∷ v) s)
-  unfolding word
-  other_name [] e h o = refl
-  other_name (b ∷ s) e h o = rw (by_letter b s (eqb b c) refl (sym h ∙ e) o)
+  -- where the last is a list, as it was read
+  pub only_list : {B : Type 0} (form : List ℕ → Got A) (f : List A → B) (s : List ℕ) (g : Got ℕ) → list_of form s ≡ g → None ≡ only g
+      → None ≡ only (a_list form s ▷ (λ v t. got (f v) t))
+  only_list form f s (got n []) is e = cc
+  only_list form f s (got n (b ∷ t)) is e = rw (list_got form n s (b ∷ t) is) refl
+  only_list form f s bad is e = rw (no_list form s is) refl
 
--- ---- words that are n fractions and the rest of the line, as protocol_lists::read_rest reads them into a new list, v after it, and answers r
-module _ (n : ℕ) (s : List ℕ) (f : List Float → reply.Reply) where
-  abbrev asked : reply.Reply
-  asked = only (fractions n s ▷ (λ v t. got (f v) t))
+-- ---- a line that begins with a name is the name and what follows it
+abbrev left : List ℕ → Got (Unit {0})
+left t = got tt t
 
-  abbrev zeros : List Float
-  zeros = replicate n (of_bits binary64 0)
+by_byte : (c b : ℕ) (w s t : List ℕ) (is : Bool) → eqb b c ≡ is → (word w s ≡ left t → s ≡ w ++ t) → cond is (word w s) bad ≡ left t
+    → b ∷ s ≡ c ∷ (w ++ t)
+by_byte c b w s t true e more h = let same = eqb-true b c e in cc (more h)
+by_byte c b w s t false e more h = cc
 
-  by_rest : (v : List Float) → v ≡ fractions_in zeros s → (g : Got (Unit {0})) → entries n s ≡ g → true ≡ is_rest g → f v ≡ asked
-  by_rest v is (got u []) e h = sym (ap {B = reply.Reply} (λ a. only (a ▷ (λ v t. got (f v) t))) (all_fractions n s [] zeros v (length-replicate _ _) e is))
-  by_rest v is (got u (b ∷ t)) e h = cc
-  by_rest v is bad e h = cc
+begun : (w s t : List ℕ) → word w s ≡ left t → s ≡ w ++ t
+unfolding word
+begun [] s t h = cc
+begun (c ∷ w) [] t h = cc
+begun (c ∷ w) (b ∷ s) t h = by_byte c b w s t (eqb b c) refl (begun w s t) h
 
-  not_rest : (g : Got (Unit {0})) → false ≡ is_rest g
-      → reply.TheVariants.Bad ≡ only (g ▷ (λ u t. got (values_of next_fraction n s) t) ▷ (λ v t. got (f v) t))
-  not_rest (got u []) h = cc
-  not_rest (got u (b ∷ t)) h = refl
-  not_rest bad h = refl
+module _ (w s t : List ℕ) where
+  by_blank : (words : List ℕ) (g : Got (Unit {0})) → s ≡ w ++ words → g ▷ (λ v u. left words) ≡ left t → s ≡ w ++ t
+  by_blank words (got v u) is h = let same : words ≡ t = cc in rw (← same) is
+  by_blank words bad is h = cc
 
-  pub rest_yes : (v : List Float) (r : Bool) → (r ≡ is_rest (entries n s)) × (v ≡ fractions_in zeros s) → not r ≡ false → f v ≡ asked
-  rest_yes v r is h = by_rest v is.1 (entries n s) refl (sym (not-false r h) ∙ is.0)
+  by_word : (g : Got (Unit {0})) → word w s ≡ g → g ▷ (λ u words. word (bytes " ") words ▷ (λ v x. left words)) ≡ left t → s ≡ w ++ t
+  by_word (got u words) e h = by_blank words (word (bytes " ") words) (begun w s words e) h
+  by_word bad e h = cc
 
-  pub rest_no : (r : Bool) → r ≡ is_rest (entries n s) → not r ≡ true → reply.TheVariants.Bad ≡ asked
-  rest_no r is h = not_rest (entries n s) (sym (not-true r h) ∙ is)
+  named_is : words_after w s ≡ left t → s ≡ w ++ t
+  named_is h = by_word (word w s) refl h
 
--- ---- words that end at a place k, where nothing must be left
-module _ {A : Type 0} (other a : A) (s : List ℕ) (k : ℕ) where
-  pub ended : length s ≤ k → a ≡ only_or other (got a (drop k s))
-  ended h = rw (drop_of_length-le s)
-
-  pub not_ended : k < length s → other ≡ only_or other (got a (drop k s))
-  not_ended h = rw (drop-cons s k 0)
+-- what is the same for every line that begins with a name
+pub by_name : {A : Type 0} (f : List ℕ → A) {x : A} (w s t : List ℕ) → words_after w s ≡ left t → ((u : List ℕ) → x ≡ f (w ++ u)) → x ≡ f s
+by_name f w s t h same = rw (named_is w s t h) (same t)

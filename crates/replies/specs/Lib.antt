@@ -1,3 +1,2 @@
--- What the contracts of the replies say, and how the reply to a line is defined.
-pub mod Replies
+-- How the reply to a line is defined.
 pub mod Requests

@@ -1,29 +1,23 @@
 // The replies.
-ghost use Rattle.std.specs.Prelude.{◌≡◌};
-ghost use Rattle.replies.specs.Replies.{is_bad};
-
+use grid_rows::FitResultRow;
 use moments::{Five, Params};
+use protocol_lists::State;
+use refusal::Refusal;
+use walk::Ended;
 
 // How a walk ended, and the state after it.
 #[derive(Clone, Copy)]
 pub struct Report {
-    pub count: u64,
-    pub reason: u64,
-    pub parameters: Params,
-    pub error: f64,
-    pub new_moments: Five,
+    pub ended: Ended,
+    pub state: State,
 }
 
-// How a search ended: its row, if there is one, and the state after it.
+// How a search ended: its row, if there is one, and the state and the epsilon after it.
 #[derive(Clone, Copy)]
 pub struct Search {
-    pub is_row: bool,
-    pub row: Params,
-    pub row_error: f64,
-    pub parameters: Params,
-    pub error: f64,
+    pub row: Option<FitResultRow>,
+    pub state: State,
     pub epsilon: f64,
-    pub new_moments: Five,
 }
 
 // A row for each span: how many spans, whether one or two columns of fractions, and the place in the
@@ -36,12 +30,10 @@ pub struct SpanRows {
     pub starts: usize,
 }
 
+// The reply to a request; a line that is no request has none.
 #[derive(Clone, Copy)]
 pub enum Reply {
-    // the line is no request
-    Bad,
-    // document 01's number
-    Refused(u64),
+    Refused(Refusal),
     Fraction(f64),
     Natural(u64),
     Instant(i64),
@@ -54,13 +46,4 @@ pub enum Reply {
     // so many entries, of so many fractions in all, which stand in a list beside the reply
     Listed(usize, usize),
     Spanned(SpanRows),
-}
-
-pub fn is_bad(r: Reply) -> bool
-    ensures { result ≡ is_bad r }
-{
-    match r {
-        Reply::Bad => true,
-        _ => false,
-    }
 }

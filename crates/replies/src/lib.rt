@@ -4,4 +4,4 @@
 
 pub mod forms; // forms.rt: the replies
 
-pub use forms::{Reply, Report, Search, SpanRows, is_bad};
+pub use forms::{Reply, Report, Search, SpanRows};

@@ -1,3 +1,2 @@
 -- Laws that belong to no one function, on plain values.
-pub mod Asking
 pub mod Names

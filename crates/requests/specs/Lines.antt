@@ -1,6 +1,6 @@
 -- The reply to a line, whichever kind of request it is, and what the lent list holds after it. Definitions only.
-use Rattle.std.specs.Prelude.{ℕ, cond, List, Float, length}
-use Rattle.replies.specs.Replies.{is_bad}
+use Rattle.std.specs.Prelude.{ℕ, List, Float, Option, length}
+use Rattle.std.specs.Option.{option_or}
 use Rattle.replies.specs.declared.forms.Reply.{Reply}
 use Rattle.number_requests.specs.Leaves.{leaves}
 use Rattle.moment_requests.specs.Orders.{orders, orders_in}
@@ -11,22 +11,22 @@ use Rattle.run_requests.specs.Runs.{runs, runs_in}
 use Rattle.price_requests.specs.Curves.{curves}
 use Rattle.bet_requests.specs.Spans.{spans, spans_in}
 
--- a kind's reply, or another where it is `Bad`, as a kind replies to a line of another kind
+-- a kind's reply, or another where it has none, as of a line of another kind
 infixr 5 ◌or_else◌
-abbrev pub ◌or_else◌ : Reply → Reply → Reply
-r or_else other = cond (is_bad r) other r
+abbrev pub ◌or_else◌ : Option Reply → Option Reply → Option Reply
+r or_else other = option_or r other
 
--- the reply to the line s, where the lent list is xs or has n places: that of the first kind that does not reply `Bad`
-unfoldable pub of_numbers : List Float → List ℕ → Reply
+-- the reply to the line s, where the lent list is xs or has n places: that of the first kind that has one
+unfoldable pub of_numbers : List Float → List ℕ → Option Reply
 of_numbers xs s = leaves s or_else orders xs s
 
-unfoldable pub of_fits : ℕ → List ℕ → Reply
+unfoldable pub of_fits : ℕ → List ℕ → Option Reply
 of_fits n s = steps s or_else walks s or_else searches s or_else runs n s
 
-unfoldable pub of_bets : ℕ → List ℕ → Reply
+unfoldable pub of_bets : ℕ → List ℕ → Option Reply
 of_bets n s = curves s or_else spans n s
 
-unfoldable pub reply_to : List Float → List ℕ → Reply
+unfoldable pub reply_to : List Float → List ℕ → Option Reply
 reply_to xs s = of_numbers xs s or_else of_fits (length xs) s or_else of_bets (length xs) s
 
 -- the lent list after it: three kinds leave answers there, and each leaves the list as it was where the line has another's name

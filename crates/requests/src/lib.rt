@@ -1,5 +1,6 @@
-// Which kind of request a line is. A kind to which the line does not belong replies `Bad`, and the
-// next is asked. Answers that are lists are left in xs.
+// Which kind of request a line is. A kind to which the line does not belong has no reply, and the
+// next is asked. Answers that are lists are left in xs. The kinds are asked by `if let`: of a closure
+// that it does not call, `or_else` does not say that it leaves xs alone.
 #![tactic(auto)]
 
 ghost use Rattle.std.specs.Prelude.{◌≡◌, length};
@@ -18,61 +19,54 @@ use search_requests::searches;
 use step_requests::steps;
 use walk_requests::walks;
 
-pub fn answer(s: &[u8], xs: &mut [f64]) -> Reply
+pub fn answer(s: &[u8], xs: &mut [f64]) -> Option<Reply>
     ensures { (result ≡ reply_to xs.old s.now)
         × (xs.new ≡ left_in xs.old s.now) }
 {
-    let number = of_numbers(s, xs);
-    if !replies::is_bad(number) {
-        return number;
+    if let Some(number) = of_numbers(s, xs) {
+        return Some(number);
     }
-    let fit = of_fits(s, xs);
-    if !replies::is_bad(fit) {
-        return fit;
+    if let Some(fit) = of_fits(s, xs) {
+        return Some(fit);
     }
     of_bets(s, xs)
 }
 
 // Numbers and moments.
-fn of_numbers(s: &[u8], xs: &mut [f64]) -> Reply
+fn of_numbers(s: &[u8], xs: &mut [f64]) -> Option<Reply>
     ensures { (result ≡ of_numbers xs.old s.now)
         × (xs.new ≡ orders_in xs.old s.now) }
 {
-    let leaf = leaves::answer(s);
-    if !replies::is_bad(leaf) {
-        return leaf;
+    if let Some(leaf) = leaves::answer(s) {
+        return Some(leaf);
     }
     orders::answer(s, xs)
 }
 
 // The fit, from one step to several runs.
-fn of_fits(s: &[u8], xs: &mut [f64]) -> Reply
+fn of_fits(s: &[u8], xs: &mut [f64]) -> Option<Reply>
     ensures { (result ≡ of_fits (length xs.old) s.now)
         × (xs.new ≡ runs_in xs.old s.now) }
 {
-    let step = steps::answer(s);
-    if !replies::is_bad(step) {
-        return step;
+    if let Some(step) = steps::answer(s) {
+        return Some(step);
     }
-    let walk = walks::answer(s);
-    if !replies::is_bad(walk) {
-        return walk;
+    if let Some(walk) = walks::answer(s) {
+        return Some(walk);
     }
-    let search = searches::answer(s);
-    if !replies::is_bad(search) {
-        return search;
+    if let Some(search) = searches::answer(s) {
+        return Some(search);
     }
     runs::answer(s, xs)
 }
 
 // Prices and spans.
-fn of_bets(s: &[u8], xs: &mut [f64]) -> Reply
+fn of_bets(s: &[u8], xs: &mut [f64]) -> Option<Reply>
     ensures { (result ≡ of_bets (length xs.old) s.now)
         × (xs.new ≡ spans_in xs.old s.now) }
 {
-    let curve = curves::answer(s);
-    if !replies::is_bad(curve) {
-        return curve;
+    if let Some(curve) = curves::answer(s) {
+        return Some(curve);
     }
     spans::answer(s, xs)
 }

@@ -1,176 +1,72 @@
 // The request of one search. A list of moments longer than 16 is read, and refused by the library. A
 // weight has 17 bytes of a line of at most 65,535 bytes, so a line has fewer than 4,096 of them.
-ghost use Rattle.std.specs.Prelude.{◌≡◌, drop};
-ghost use Rattle.search_requests.specs.Searches.{ended_search, given_is, next_given, no_row, overriding, search_from, search_of, searched_reply, searches, single, weights_from};
-ghost use Rattle.replies.specs.Requests.{only};
+ghost use Rattle.std.specs.Prelude.{◌≡◌};
+ghost use Rattle.text.specs.Meaning.{got_of};
+ghost use Rattle.protocol.specs.Words.{only};
+ghost use Rattle.search_requests.specs.Searches.{next_given, searched_reply, searches, single};
 
-use grid::{Best, Epsilon, FitResultRow, Fitted, Outcome};
-use moments::Params;
-use protocol::Fraction;
-use protocol_lists::{List, State};
+use grid::Fitted;
 use replies::{Reply, Search};
-use text::{Next, Number};
 use walk::M2N;
 
-pub fn answer(s: &[u8]) -> Reply
+pub fn answer(s: &[u8]) -> Option<Reply>
     ensures { result ≡ searches s.now }
 {
-    if protocol::begins(s, b"single_fit ") {
-        return single_fit(s, 10);
+    if let Some(words) = protocol::words_after(s, b"single_fit") {
+        return single_fit(words);
     }
-    Reply::Bad
+    None
 }
 
-fn single_fit(s: &[u8], at: usize) -> Reply
-    ensures { result ≡ only (single (drop at s.now)) }
+fn single_fit(words: &[u8]) -> Option<Reply>
+    ensures { result ≡ only (single words.now) }
 {
-    let Number::Is(variant, a) = protocol::read_next_natural(s, at, u64::MAX) else {
-        return Reply::Bad;
+    let (variant, words) = protocol::read_next_natural(words, u64::MAX)?;
+    let mut moments = [0.0; 16];
+    let (len, words) = protocol_lists::read_next_list(words, &mut moments)?;
+    let (epsilon, words) = protocol::read_next_fraction(words)?;
+    let (epsilon_override, words) = read_given(words)?;
+    let (factor, words) = protocol::read_next_fraction(words)?;
+    let (max_iter, words) = protocol::read_next_natural(words, u64::MAX)?;
+    let (state, words) = protocol_lists::read_next_state(words)?;
+    let mut weights = [0.0; 4096];
+    let n = protocol::only(protocol_lists::read_next_list(words, &mut weights))?;
+    let m = M2N {
+        moments,
+        len,
+        epsilon,
+        factor,
+        n_runs: 1,
+        variant: variant as usize,
+        max_iter: max_iter as usize,
+        new_moments: state.new_moments,
+        parameters: state.parameters,
+        error: state.error,
     };
-    let mut m = [0.0f64; 16];
-    let List::Is(n, b) = protocol_lists::read_next_list(s, a, &mut m) else {
-        return Reply::Bad;
-    };
-    search_from(s, b, variant, m, n)
+    let fitted = ef3m::single_fit_through(m, epsilon_override, &weights[..n.min(4096)]);
+    Some(reply(fitted))
 }
 
-// The words after the moments, of which n were given.
-fn search_from(s: &[u8], at: usize, variant: u64, m: [f64; 16], n: usize) -> Reply
-    ensures { result ≡ only (search_from variant m n (drop at s.now)) }
+// The epsilon that is given for this search; `-` where none is.
+fn read_given(s: &[u8]) -> Option<(Option<f64>, &[u8])>
+    ensures { next_given s.now ≡ got_of result }
 {
-    let Fraction::Is(epsilon, a) = protocol::read_next_fraction(s, at) else {
-        return Reply::Bad;
-    };
-    let Given::Is(given, b) = read_given(s, a) else {
-        return Reply::Bad;
-    };
-    let Fraction::Is(factor, c) = protocol::read_next_fraction(s, b) else {
-        return Reply::Bad;
-    };
-    let Number::Is(max_iter, d) = protocol::read_next_natural(s, c, u64::MAX) else {
-        return Reply::Bad;
-    };
-    let State::Is(parameters, error, new_moments, e) = protocol_lists::read_next_state(s, d) else {
-        return Reply::Bad;
-    };
-    weights_from(
-        s,
-        e,
-        M2N {
-            moments: m,
-            len: n,
-            epsilon: epsilon,
-            factor: factor,
-            n_runs: 1,
-            variant: variant as usize,
-            max_iter: max_iter as usize,
-            new_moments: new_moments,
-            parameters: parameters,
-            error: error,
-        },
-        given,
-    )
-}
-
-// The epsilon that is given for this search, and the place after it.
-#[derive(Clone, Copy)]
-enum Given {
-    Is(Epsilon, usize),
-    No,
-}
-
-fn read_given(s: &[u8], at: usize) -> Given
-    ensures { next_given (drop at s.now) ≡ given_is s.now result }
-{
-    let own = text_read::read_word(s, at, b" -");
-    match own {
-        Next::At(a) => Given::Is(Epsilon::Own, a),
-        Next::No => read_override(s, at),
+    if let Some(rest) = text_read::read_word(s, b" -") {
+        return Some((None, rest));
     }
-}
-
-fn read_override(s: &[u8], at: usize) -> Given
-    ensures { overriding (drop at s.now) ≡ given_is s.now result }
-{
-    let Fraction::Is(epsilon, a) = protocol::read_next_fraction(s, at) else {
-        return Given::No;
-    };
-    Given::Is(Epsilon::Override(epsilon), a)
-}
-
-// The places that weights are read into. A function, so that a proof takes what it answers as any list
-// of 4,096 places.
-fn fractions_room() -> [f64; 4096] {
-    [0.0f64; 4096]
-}
-
-// The words after the state.
-fn weights_from(s: &[u8], at: usize, m: M2N, given: Epsilon) -> Reply
-    ensures { result ≡ only (weights_from m given (drop at s.now)) }
-{
-    let mut w = fractions_room();
-    let List::Is(n, e) = protocol_lists::read_next_list(s, at, &mut w) else {
-        return Reply::Bad;
-    };
-    if e < s.len() {
-        return Reply::Bad;
-    }
-    let k = protocol::least(n, 4096);
-    reply(ef3m::single_fit_through(m, given, &w[..k]))
+    let (epsilon, rest) = protocol::read_next_fraction(s)?;
+    Some((Some(epsilon), rest))
 }
 
 fn reply(f: Fitted) -> Reply
     ensures { result ≡ searched_reply f }
 {
-    let m = f.state;
-    let o = f.outcome;
-    match o {
-        Outcome::Refused(number) => Reply::Refused(number),
-        Outcome::Ended(best) => Reply::Searched(ended(m, best)),
-    }
-}
-
-fn ended(m: M2N, best: Best) -> Search
-    ensures { result ≡ ended_search m best }
-{
-    match best {
-        Best::Row(r) => search_of(m, true, r),
-        Best::Nothing => search_of(m, false, no_row()),
-    }
-}
-
-fn search_of(m: M2N, is_row: bool, r: FitResultRow) -> Search
-    ensures { result ≡ search_of m is_row r }
-{
-    let parameters = m.parameters;
-    let new_moments = m.new_moments;
-    Search {
-        is_row: is_row,
-        row: Params {
-            mu_1: r.mu_1,
-            mu_2: r.mu_2,
-            sigma_1: r.sigma_1,
-            sigma_2: r.sigma_2,
-            p_1: r.p_1,
-        },
-        row_error: r.error,
-        parameters: parameters,
-        error: m.error,
-        epsilon: m.epsilon,
-        new_moments: new_moments,
-    }
-}
-
-// Stands for a row where there is none.
-fn no_row() -> FitResultRow
-    ensures { result ≡ no_row }
-{
-    FitResultRow {
-        mu_1: 0.0,
-        mu_2: 0.0,
-        sigma_1: 0.0,
-        sigma_2: 0.0,
-        p_1: 0.0,
-        error: 0.0,
+    match f.outcome {
+        Ok(row) => Reply::Searched(Search {
+            row,
+            state: walk_requests::walks::state_in(f.state),
+            epsilon: f.state.epsilon,
+        }),
+        Err(refusal) => Reply::Refused(refusal),
     }
 }

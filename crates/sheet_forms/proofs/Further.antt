@@ -1,10 +1,9 @@
 -- A form takes a byte at least, since its first word does and nothing after gives one back. Assumes nothing.
 use Prim.Native.Nat.{ℕ, suc, ◌≤◌, ◌<◌}
 use mathlib.Core.Path.{◌≡◌}
-use mathlib.Core.List.{List, ◌∷◌}
+use mathlib.Core.List.{List, [], ◌∷◌}
 use native.Mathlib.Omega.{arith}
-use lib.ListN.{length, drop, get_or, length-drop}
-use lib.Seq.{drop-cons}
+use lib.ListN.{length}
 use Rattle.text.specs.Bytes.{bytes}
 use Rattle.text.specs.Decode.{got, word, instant, hexes}
 use Rattle.text.proofs.Shorter.{Leaves, leaves_le, leaves_then, leaves_word, leaves_instant, leaves_hexes, leaves_first}
@@ -30,9 +29,11 @@ leaves_line b s =
     leaves_then (length s) (word (bytes "\n") s₁) _ (leaves_le (word (bytes "\n") s₁) l₁ (leaves_word _ s₁)) λ _ s₂ l₂.
     l₂
 
--- so the place after a line is past the place where it starts
-pub further : (s : List ℕ) (i k : ℕ) (a : Span) → i < length s → line_form (drop i s) ≡ got a (drop k s) → i < k
-further s i k a h e =
-    let l : Leaves (length (drop (suc i) s)) (line_form (get_or s i 0 ∷ drop (suc i) s)) = leaves_line (get_or s i 0) (drop (suc i) s) in
-    let m : length (drop k s) ≤ length (drop (suc i) s) = rw (← drop-cons s i 0 h, e) at l in
-    omega (arith, m, length-drop k s, length-drop (suc i) s)
+-- so what is left after a line is shorter
+pub further : (s t : List ℕ) (a : Span) → line_form s ≡ got a t → length t < length s
+unfolding line_form span_form word
+further [] t a e = absurd cc
+further (b ∷ s) t a e =
+    let l = leaves_line b s in
+    let m : length t ≤ length s = rw e at l in
+    omega (arith, m)

@@ -5,6 +5,7 @@ use mathlib.Core.List.{List, [], ◌∷◌, ◌++◌, append_assoc}
 use native.Mathlib.Omega.{arith}
 use borrow.Author.Tests.{le-ltb}
 use lib.ListN.{length, length-append}
+use Rattle.std.specs.Prelude.{Ok, Err}
 use Rattle.text.specs.Bytes.{bytes}
 use Rattle.text.specs.Decode.{Got, got, bad, word, instant, hexes}
 use Rattle.text.specs.Print.{hex, shown}
@@ -19,7 +20,7 @@ use Rattle.text.proofs.Spelling.{
   hex_range,
 }
 use Rattle.sheet_forms.specs.Forms.{span_form, line_form, span_text, span_lines}
-use Rattle.sheet_read.specs.Sheet.{Lines, spans, wrong, also, onward, lines, accepted, sheet}
+use Rattle.sheet_read.specs.Sheet.{Lines, also, onward, lines, sheet}
 use Rattle.sheet_read.specs.Spelling.{InRange, AllInRange, Holdable, OneSpelling}
 use Rattle.sheet_forms.specs.declared.Span.{Span}
 use Rattle.sheet_read.proofs.Going.{accepts}
@@ -45,7 +46,7 @@ lines_on : (a : Span) (s : List ℕ) (k n : ℕ) → lines (suc k) n (span_text 
 unfolding lines span_text
 lines_on a s k n = refl
 
-lines_back : (l : List Span) (k n : ℕ) → AllInRange l → length (span_lines l) ≤ k → lines k n (span_lines l) ≡ spans l
+lines_back : (l : List Span) (k n : ℕ) → AllInRange l → length (span_lines l) ≤ k → lines k n (span_lines l) ≡ Ok l
 unfolding lines
 lines_back [] zero n r h = refl
 lines_back [] (suc k) n r h = refl
@@ -54,7 +55,7 @@ lines_back (a ∷ l) (suc k) n r h =
     let e : length (span_lines l) ≤ k = omega (arith, simp length-append at h) in
     lines_on a (bytes "\n" ++ span_lines l) k n ∙ rw (line_back a (span_lines l) r.0, lines_back l k (suc n) r.1 e)
 
-sheet_back : (l : List Span) → Holdable l → sheet (span_lines l) ≡ accepted l
+sheet_back : (l : List Span) → Holdable l → sheet (span_lines l) ≡ Ok l
 unfolding sheet
 sheet_back l h =
     rw (
@@ -105,38 +106,35 @@ line_spelled s a t e =
     let l = span_spelled s b s₁ p₁ in
     rw (← q, ← r) (l.0 ∙ ap (◌++◌ (span_text b)) (word_spelled _ s₁ s₂ p₂), l.1)
 
-no : {A : Type 0} → ◌≡◌ {A = ℕ} 0 1 → A
-no e = absurd (omega arith)
-
 abbrev Printed : List ℕ → List Span → Type 0
 Printed s l = (s ≡ span_lines l) × AllInRange l
 
-lines_none : (l : List Span) → spans [] ≡ spans l → Printed [] l
+lines_none : (l : List Span) → ◌≡◌ {A = Lines} (Ok []) (Ok l) → Printed [] l
 lines_none l e = let p : [] ≡ l = cc in rw (← p) (refl, tt)
 
 lines_also : (a : Span) (s t : List ℕ) (g : Lines) (l : List Span) → (s ≡ span_text a ++ (bytes "\n" ++ t)) × InRange a
-    → ((m : List Span) → g ≡ spans m → Printed t m) → also a g ≡ spans l → Printed s l
-lines_also a s t (spans m) l p f e =
+    → ((m : List Span) → g ≡ Ok m → Printed t m) → also a g ≡ Ok l → Printed s l
+lines_also a s t (Ok m) l p f e =
     let q : a ∷ m ≡ l = cc in
     let r = f m refl in
     rw (← q) (p.0 ∙ ap (λ (u : List ℕ). span_text a ++ (bytes "\n" ++ u)) r.0, (p.1, r.1))
-lines_also a s t (wrong n) l p f e = no cc
+lines_also a s t (Err n) l p f e = absurd cc
 
-lines_spelled : (k n : ℕ) (s : List ℕ) (l : List Span) → lines k n s ≡ spans l → Printed s l
+lines_spelled : (k n : ℕ) (s : List ℕ) (l : List Span) → lines k n s ≡ Ok l → Printed s l
 unfolding lines
 lines_spelled zero n [] l e = lines_none l e
-lines_spelled zero n (b ∷ s) l e = no cc
+lines_spelled zero n (b ∷ s) l e = absurd cc
 lines_spelled (suc k) n [] l e = lines_none l e
 lines_spelled (suc k) n (b ∷ s) l e = by (line_form (b ∷ s)) refl e (λ t m f. lines_spelled k (suc n) t m f)
   where
-    by : (g : Got Span) → line_form (b ∷ s) ≡ g → onward n (lines k (suc n)) g ≡ spans l
-        → ((t : List ℕ) (m : List Span) → lines k (suc n) t ≡ spans m → Printed t m)
+    by : (g : Got Span) → line_form (b ∷ s) ≡ g → onward n (lines k (suc n)) g ≡ Ok l
+        → ((t : List ℕ) (m : List Span) → lines k (suc n) t ≡ Ok m → Printed t m)
         → Printed (b ∷ s) l
     by (got a t) p e f = lines_also a (b ∷ s) t (lines k (suc n) t) l (line_spelled (b ∷ s) a t p) (f t) e
-    by bad p e f = no cc
+    by bad p e f = absurd cc
 
 -- ---- a sheet
-sheet_spelled : (s : List ℕ) (l : List Span) → sheet s ≡ accepted l → (s ≡ span_lines l) × Holdable l
+sheet_spelled : (s : List ℕ) (l : List Span) → sheet s ≡ Ok l → (s ≡ span_lines l) × Holdable l
 sheet_spelled s l e =
     let a = accepts l s e in
     let r = lines_spelled (length s) 1 s l a.is in

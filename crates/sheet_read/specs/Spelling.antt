@@ -1,9 +1,9 @@
 -- Each span has one spelling: the sheets that are accepted are the printed ones, within the limits. Definitions only.
-use Rattle.std.specs.Prelude.{ℕ, ◌≤◌, ◌<◌, ◌^◌, ◌≡◌, List, [], ◌∷◌, length}
+use Rattle.std.specs.Prelude.{ℕ, ◌≤◌, ◌<◌, ◌^◌, ◌≡◌, List, [], ◌∷◌, length, Ok}
 use Rattle.std.specs.Int.Signed.{mag}
 use Rattle.sheet_forms.specs.Forms.{span_lines}
 use Rattle.sheet_forms.specs.declared.Span.{Span}
-use Rattle.sheet_read.specs.Sheet.{accepted, sheet}
+use Rattle.sheet_read.specs.Sheet.{sheet}
 
 -- a span that a sheet can hold: its instants within i64, its side of 64 bits
 pub record InRange (a : Span) : Type 0 where
@@ -23,5 +23,5 @@ pub record Holdable (l : List Span) : Type 0 where
 
 -- what is accepted as some spans is their printed form, and their printed form is accepted as them
 pub record OneSpelling (s : List ℕ) : Type 0 where
-  pub only : (l : List Span) → sheet s ≡ accepted l → (s ≡ span_lines l) × Holdable l
-  pub all : (l : List Span) → Holdable l → s ≡ span_lines l → sheet s ≡ accepted l
+  pub only : (l : List Span) → sheet s ≡ Ok l → (s ≡ span_lines l) × Holdable l
+  pub all : (l : List Span) → Holdable l → s ≡ span_lines l → sheet s ≡ Ok l

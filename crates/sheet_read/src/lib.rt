@@ -2,97 +2,89 @@
 // checked and then to be taken, so that a sheet that is turned away leaves the lists as they are.
 #![tactic(auto)]
 
-ghost use Rattle.std.specs.Prelude.{◌≡◌, min};
+ghost use Rattle.std.specs.Prelude.{◌≡◌};
 ghost use Rattle.sheet_read.specs.Meaning.{Fillable, HeldBy, SheetRead, answer_of};
 ghost use Rattle.sheet_read.specs.Sheet.{sheet};
 ghost use Rattle.sheet_read.specs.Spelling.{OneSpelling};
+ghost use Rattle.sheet_read.specs.declared.SheetError.TheVariants.{Refused};
 
-use sheet_forms::Form;
+use refusal::Refusal;
 
-// How many spans a sheet has; or the number by which it is refused; or that number and a line.
-#[derive(Clone, Copy)]
-pub enum Sheet {
-    Accepted(usize),
-    Refused(u64),
-    RefusedAt(u64, usize),
+// Why a sheet is turned away: as other calls are, or by a line that is no span form. For that there is a
+// case of its own, so that `Refused` never holds `NotASpan`.
+#[derive(Clone, Copy, Debug, PartialEq, Eq)]
+pub enum SheetError {
+    Refused(Refusal),
+    NotASpan { line: usize },
 }
 
-// What a sheet is. Its lines are counted after they are read, as document 01 has it.
-#[tactic(auto, using(crate::proofs::Going::sheet_long))]
-fn check(s: &[u8]) -> Sheet
+impl From<Refusal> for SheetError {
+    ghost from_gives = { λ refusal error. error ≡ Refused refusal };
+
+    fn from(refusal: Refusal) -> SheetError
+        ensures { result ≡ Refused refusal }
+    {
+        SheetError::Refused(refusal)
+    }
+}
+
+// How many spans a sheet has. Its lines are counted after they are read, as document 01 has it.
+#[tactic(auto, using(crate::proofs::Going::sheet_long, crate::proofs::Going::start))]
+fn check(s: &[u8]) -> Result<usize, SheetError>
     ensures { result ≡ answer_of (sheet s.now) }
 {
     if 65536 < s.len() {
-        return Sheet::Refused(11);
+        return Err(Refusal::TooLarge.into());
     }
-    let mut at = 0;
+    let mut rest = s;
     let mut n = 0;
-    while at < s.len() {
-        let Form::Is(_, k) = sheet_forms::read_line(s, at) else {
-            return Sheet::RefusedAt(15, n + 1);
+    // no `for`: where a line ends is known when it is read
+    while !rest.is_empty() {
+        let Some((_, after)) = sheet_forms::read_line(rest) else {
+            return Err(SheetError::NotASpan { line: n + 1 });
         };
-        at = k;
+        rest = after;
         n += 1;
     }
     if 1024 < n {
-        return Sheet::Refused(11);
+        return Err(Refusal::TooLarge.into());
     }
-    Sheet::Accepted(n)
+    Ok(n)
 }
 
-// Takes the spans of a sheet that was accepted, as many as the lists have room for.
+// Takes the spans of a sheet that was accepted into lists that have a place for each.
 fn take_spans(s: &[u8], starts: &mut [i64], ends: &mut [i64], sides: &mut [f64])
     requires { Fillable s.now starts.old ends.old sides.old }
-    ensures { HeldBy (sheet s.now) starts.old starts.new ends.old ends.new sides.old sides.new }
+    ensures { HeldBy (sheet s.now) starts.new ends.new sides.new }
 {
-    let mut at = 0;
-    let mut n = 0;
-    while at < s.len() {
-        let Form::Is(a, k) = sheet_forms::read_line(s, at) else {
+    let mut rest = s;
+    for i in 0..starts.len() {
+        let Some((span, after)) = sheet_forms::read_line(rest) else {
             return;
         };
-        let from = a.from;
-        let to = a.to;
-        let bits = a.side;
-        let side = text_bits::float_of(bits);
-        starts[n] = from;
-        ends[n] = to;
-        sides[n] = side;
-        at = k;
-        n += 1;
+        starts[i] = span.from;
+        ends[i] = span.to;
+        sides[i] = text_bits::float_of(span.side);
+        rest = after;
     }
 }
 
-fn smaller(a: usize, b: usize) -> usize
-    ensures { result ≡ min a b }
-{
-    if b < a {
-        return b;
-    }
-    a
-}
-
-// Reads the spans of a sheet into three lists.
+// Reads the spans of a sheet into three lists, and tells how many there are.
 #[tactic(auto, using(crate::proofs::Spelling::one_spelling))]
-pub fn read_sheet(s: &[u8], starts: &mut [i64], ends: &mut [i64], sides: &mut [f64]) -> Sheet
+pub fn read_sheet(
+    s: &[u8],
+    starts: &mut [i64],
+    ends: &mut [i64],
+    sides: &mut [f64],
+) -> Result<usize, SheetError>
     ensures sheet_read { SheetRead s.now starts.old starts.new ends.old ends.new sides.old sides.new result }
     ensures one_spelling { OneSpelling s.now }
 {
-    let room = smaller(starts.len(), smaller(ends.len(), sides.len()));
-    let r = check(s);
-    match r {
-        Sheet::Accepted(n) => {
-            if room < n {
-                return Sheet::Refused(8);
-            }
-            take_spans(s, starts, ends, sides);
-            return Sheet::Accepted(n);
-        }
-        Sheet::Refused(number) => {
-            return Sheet::Refused(number);
-        }
-        Sheet::RefusedAt(number, line) => {
-            return Sheet::RefusedAt(number, line);
-        }
+    let room = starts.len().min(ends.len()).min(sides.len());
+    let n = check(s)?;
+    if room < n {
+        return Err(Refusal::TooLittleRoom.into());
     }
+    take_spans(s, &mut starts[..n], &mut ends[..n], &mut sides[..n]);
+    Ok(n)
 }

@@ -1,46 +1,44 @@
 -- The requests of one step of the fit, each by its words and what they come to, and the reply to a line. Definitions only.
-use Rattle.std.specs.Prelude.{ℕ, List, Float, Result, Ok, Err}
+use Rattle.std.specs.Prelude.{ℕ, List, Float, Option, None, Result}
 use Rattle.text.specs.Decode.{Got}
 use Rattle.protocol.specs.Words.{next_fraction}
 use Rattle.protocol_lists.specs.Lists.{fraction_list}
 use Rattle.step.specs.declared.Step as step
 use Rattle.iterate.specs.Refusals.{iter4, iter5}
-use Rattle.refusal.specs.Numbers.{number_of}
-use Rattle.refusal.specs.declared.Refusal as refusal
-use Rattle.replies.specs.Requests.{◌>>=◌, named, reply}
+use Rattle.refusal.specs.declared.Refusal.{Refusal}
+use Rattle.replies.specs.Requests.{◌>>=◌, named, or_refused, reply}
 use Rattle.replies.specs.declared.forms.Reply.{Reply}
 use Rattle.step_requests.specs.declared.steps.Iter.{Iter}
 use Rattle.step_requests.specs.declared.steps.Iter.TheVariants.{Four, Five}
-use Rattle.replies.specs.declared.forms.Reply.TheVariants.{Bad, Inadmissible, Parameters, Refused}
+use Rattle.replies.specs.declared.forms.Reply.TheVariants.{Inadmissible, Parameters}
 
 -- a step on moments, a mean and a weight
 abbrev pub Stepping : Type 0
-Stepping = List Float → Float → Float → Result step.Step refusal.Refusal
+Stepping = List Float → Float → Float → Result step.Step Refusal
 
 -- the one that is asked for
 abbrev pub stepping : Iter → Stepping
 stepping Four = iter4
 stepping Five = iter5
 
--- what a step answers, as a reply
-abbrev pub iterate_reply : Result step.Step refusal.Refusal → Reply
-iterate_reply (Ok (step.TheVariants.Admitted p)) = Parameters p
-iterate_reply (Ok step.TheVariants.Inadmissible) = Inadmissible
-iterate_reply (Err e) = Refused (number_of e)
+-- what a step came to, as a reply
+abbrev pub step_reply : step.Step → Reply
+step_reply (step.TheVariants.Admitted p) = Parameters p
+step_reply step.TheVariants.Inadmissible = Inadmissible
 
 -- the words after the moments
 abbrev pub step_from : Stepping → List Float → List ℕ → Got Reply
 step_from stepped moments = do
   mu ← next_fraction
   p ← next_fraction
-  reply (iterate_reply (stepped moments mu p))
+  reply (or_refused step_reply (stepped moments mu p))
 
 abbrev pub one_step : Stepping → List ℕ → Got Reply
 one_step stepped = do
   moments ← fraction_list
   step_from stepped moments
 
-abbrev pub steps : List ℕ → Reply
+abbrev pub steps : List ℕ → Option Reply
 steps s =
     named "iter_4" (one_step iter4) s
-    (named "iter_5" (one_step iter5) s Bad)
+    (named "iter_5" (one_step iter5) s None)

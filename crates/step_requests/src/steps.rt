@@ -1,10 +1,9 @@
-// Requests of one step of the fit. A list longer than 16 is read, and refused by the library.
-ghost use Rattle.std.specs.Prelude.{◌≡◌, drop, take};
-ghost use Rattle.step_requests.specs.Steps.{iterate_reply, one_step, step_from, stepping, steps};
-ghost use Rattle.replies.specs.Requests.{only};
+// Requests of one step of the fit. The function of both takes the words after a name. A list longer
+// than 16 is read, and refused by the library: 17 of it are enough for that, whatever they are.
+ghost use Rattle.std.specs.Prelude.{◌≡◌};
+ghost use Rattle.protocol.specs.Words.{only};
+ghost use Rattle.step_requests.specs.Steps.{one_step, step_reply, stepping, steps};
 
-use protocol::Fraction;
-use protocol_lists::List;
 use refusal::Refusal;
 use replies::Reply;
 use step::Step;
@@ -17,62 +16,43 @@ enum Iter {
     Five,
 }
 
-pub fn answer(s: &[u8]) -> Reply
+pub fn answer(s: &[u8]) -> Option<Reply>
     ensures { result ≡ steps s.now }
 {
-    if protocol::begins(s, b"iter_4 ") {
-        return one_step(s, 6, Iter::Four);
+    if let Some(words) = protocol::words_after(s, b"iter_4") {
+        return one_step(words, Iter::Four);
     }
-    if protocol::begins(s, b"iter_5 ") {
-        return one_step(s, 6, Iter::Five);
+    if let Some(words) = protocol::words_after(s, b"iter_5") {
+        return one_step(words, Iter::Five);
     }
-    Reply::Bad
+    None
 }
 
-// The step from the place after its name.
-fn one_step(s: &[u8], at: usize, iter: Iter) -> Reply
-    ensures { result ≡ only (one_step (stepping iter) (drop at s.now)) }
+fn one_step(words: &[u8], iter: Iter) -> Option<Reply>
+    ensures { result ≡ only (one_step (stepping iter) words.now) }
 {
-    let mut m = [0.0f64; 17];
-    let List::Is(n, a) = protocol_lists::read_next_list(s, at, &mut m) else {
-        return Reply::Bad;
-    };
-    step_from(s, a, iter, &m, n)
+    let mut m = [0.0; 17];
+    let (n, words) = protocol_lists::read_next_list(words, &mut m)?;
+    let (mu_2, words) = protocol::read_next_fraction(words)?;
+    let p_1 = protocol::only(protocol::read_next_fraction(words))?;
+    let answer = stepped(iter, &m[..n.min(m.len())], mu_2, p_1);
+    Some(answer.map_or_else(Reply::Refused, reply))
 }
 
-// The words after the moments, of which n were given and m has as many as it has places for.
-fn step_from(s: &[u8], at: usize, iter: Iter, m: &[f64], n: usize) -> Reply
-    ensures { result ≡ only (step_from (stepping iter) (take n m.now) (drop at s.now)) }
+fn stepped(iter: Iter, m: &[f64], mu_2: f64, p_1: f64) -> Result<Step, Refusal>
+    ensures { result ≡ stepping iter m.now mu_2 p_1 }
 {
-    let Fraction::Is(mu_2, a) = protocol::read_next_fraction(s, at) else {
-        return Reply::Bad;
-    };
-    let Fraction::Is(p_1, e) = protocol::read_next_fraction(s, a) else {
-        return Reply::Bad;
-    };
-    if e < s.len() {
-        return Reply::Bad;
-    }
-    reply(stepped(m, n, iter, mu_2, p_1))
-}
-
-// 17 moments are enough to be refused.
-fn stepped(m: &[f64], n: usize, iter: Iter, mu_2: f64, p_1: f64) -> Result<Step, Refusal>
-    ensures { result ≡ stepping iter (take n m.now) mu_2 p_1 }
-{
-    let k = protocol::least(n, m.len());
     match iter {
-        Iter::Four => iterate::iter_4(&m[..k], mu_2, p_1),
-        Iter::Five => iterate::iter_5(&m[..k], mu_2, p_1),
+        Iter::Four => iterate::iter_4(m, mu_2, p_1),
+        Iter::Five => iterate::iter_5(m, mu_2, p_1),
     }
 }
 
-fn reply(answer: Result<Step, Refusal>) -> Reply
-    ensures { result ≡ iterate_reply answer }
+fn reply(step: Step) -> Reply
+    ensures { result ≡ step_reply step }
 {
-    match answer {
-        Ok(Step::Admitted(p)) => Reply::Parameters(p),
-        Ok(Step::Inadmissible) => Reply::Inadmissible,
-        Err(e) => Reply::Refused(u64::from(e)),
+    match step {
+        Step::Admitted(parameters) => Reply::Parameters(parameters),
+        Step::Inadmissible => Reply::Inadmissible,
     }
 }

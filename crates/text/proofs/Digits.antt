@@ -4,6 +4,7 @@ use mathlib.Core.Path.{◌≡◌, refl, ◌∙◌, ap}
 use mathlib.Core.List.{List}
 use native.Mathlib.Omega.{arith}
 use native.Mathlib.Nat.{pow-succ', pow-le-pow_right}
+use native.Mathlib.Numerals.{add-one}
 use native.Mathlib.Decide.{dec_lt}
 use borrow.Author.Tests.{le-leb, lt-leb, lt-ltb, le-ltb}
 use lib.Dec.{lit≤}
@@ -35,16 +36,15 @@ module _ (b : ℕ) where
   unfolding nibble
   nibble_high h = rw (le-ltb b 48 (omega arith), lt-leb b 57 (omega arith), le-ltb b 97 (omega arith), lt-leb _ _ h)
 
--- ---- a hexadecimal digit more, with l digits to go: the number keeps within its digits, and so within 64 bits
-pub hex_room : (v d l : ℕ) → 0 < l → l ≤ 16 → v < 16 ^ (16 - l) → d < 16 → v * 16 + d < 16 ^ (16 - (l - 1))
-hex_room v d l h k b e =
-    let p : 16 - (l - 1) ≡ suc (16 - l) = omega arith in
-    rw (p, pow-succ') (omega arith)
+-- ---- a hexadecimal digit more, after i of sixteen: the number keeps within its digits, and so within 64 bits
+module _ (v d i : ℕ) (b : v < 16 ^ i) (e : d < 16) where
+  pub hex_room : v * 16 + d < 16 ^ (i + 1)
+  hex_room = rw (add-one i, pow-succ') (omega arith)
 
-pub hex_fits : (v d l : ℕ) → 0 < l → l ≤ 16 → v < 16 ^ (16 - l) → d < 16 → v * 16 + d < 2 ^ 64
-hex_fits v d l h k b e =
-    let p : 16 ^ (16 - (l - 1)) ≤ 16 ^ 16 = pow-le-pow_right (lit≤ tt) {i = 16 - (l - 1)} {j = 16} (omega arith) in
-    omega (arith, hex_room v d l h k b e, p)
+  pub hex_fits : i < 16 → v * 16 + d < 2 ^ 64
+  hex_fits h =
+      let p : 16 ^ (i + 1) ≤ 16 ^ 16 = pow-le-pow_right (lit≤ tt) {i = i + 1} {j = 16} (omega arith) in
+      omega (arith, hex_room, p)
 
 -- ---- the fewest digits that hold a number are as many as it has
 width_fewest : (k n r : ℕ) → r ≤ k → IsDigitCount 10 1 n r → r ≡ width k n

@@ -1,44 +1,26 @@
--- A text put into a buffer: the copy as it is made, what it comes to, one text after another (`placed_then`), and a text at the front. Assumes nothing.
+-- A text put into a buffer: what it comes to, one text after another (`placed_then`), and a text at the front. Assumes nothing.
 use Prim.Native.Nat.{ℕ, ◌+◌, ◌≤◌, ◌<◌}
 use mathlib.Core.Path.{◌≡◌, refl, ◌∙◌, ap}
 use mathlib.Core.List.{List, [], ◌++◌, append_assoc}
 use native.Mathlib.Omega.{arith}
 use native.Mathlib.Decide.{dec_le}
-use native.Mathlib.Numerals.{add-one}
 use borrow.Author.Tests.{le-leb, lt-leb}
-use lib.ListN.{length, take, drop, set, get_or, length-append, length-drop, length-set}
-use lib.Seq.{paste, paste-zero, paste-suc, take_all, take_at, drop_at, drop-drop, length-take-le}
+use lib.ListN.{length, take, drop, length-append, length-drop}
+use lib.Seq.{take_at, drop_at, drop-drop, length-take-le}
 use Rattle.text.specs.Print.{placed, place_after, Placed, Fronts}
 
--- ---- the copy, of which the first i bytes are made
-pub record Placing (o : List ℕ) (at : ℕ) (w o' : List ℕ) (i : ℕ) : Type 0 where
-  pub is : o' ≡ paste o at w i
-  pub same : length o' ≡ length o
-  pub within : i ≤ length w
-
-module _ (o : List ℕ) (at : ℕ) (w : List ℕ) where
-  pub place_none : Placing o at w o 0
-  place_none = record { is = paste-zero o at w; same = refl; within = omega arith }
-
-  pub place_one : (o' : List ℕ) (i : ℕ) → Placing o at w o' i → at + length w ≤ length o → i < length w
-      → Placing o at w (set o' (at + i) (get_or w i 0)) (i + 1)
-  place_one o' i p h k = record {
-    is = rw (p.is, add-one i) (paste-suc o at w i 0 (omega arith) k);
-    same = length-set o' (at + i) (get_or w i 0) ∙ p.same;
-    within = omega arith;
-  }
-
-  pub place_all : (o' : List ℕ) (i : ℕ) → Placing o at w o' i → at + length w ≤ length o → length w ≤ i → Placed o o' at (at + i) w
+-- ---- a text t put at `at` where it has room up to e, or left out where it has none
+module _ (o : List ℕ) (at : ℕ) (t : List ℕ) where
+  pub place_all : (k e : ℕ) (u : List ℕ) → u ≡ t → k ≡ length t → e ≡ at + length t → e ≤ length o → Placed o (take at o ++ (u ++ drop k (drop at o))) at e t
   unfolding placed place_after
-  place_all o' i p h k =
-      let e : i ≡ length w = omega (arith, p.within) in
+  place_all k e u same long end room =
+      let fits : at + length t ≤ length o = omega arith in
       record {
-        is = rw (le-leb _ _ h, ← e) (p.is ∙ rw (take_all i w k) (append_assoc (take at o) w (drop (at + i) o)));
-        next = rw (le-leb _ _ h, e);
+        is = rw (same, long, le-leb _ _ fits, drop-drop (length t) at o);
+        next = rw (end, le-leb _ _ fits);
       }
 
-  -- where there is no room
-  pub place_not : length o < at + length w → Placed o o at at w
+  pub place_not : length o < at + length t → Placed o o at at t
   unfolding placed place_after
   place_not h = record { is = rw (lt-leb _ _ h); next = rw (lt-leb _ _ h) }
 

@@ -1,71 +1,107 @@
--- How each decoder goes on at a place of a list, in the terms in which the code goes on: an index and its byte. Assumes nothing.
+-- How each decoder goes on, in the terms in which the code goes on: a first byte and the bytes after it. Assumes nothing.
 use Prim.Native.Nat.{ℕ, zero, suc, ◌+◌, ◌-◌, ◌*◌, ◌^◌, ◌≤◌, ◌<◌}
 use mathlib.Core.Path.{◌≡◌, refl}
-use mathlib.Core.Bool.{Bool, cond, true, false}
-use mathlib.Core.List.{List, [], ◌∷◌}
+use mathlib.Core.Bool.{Bool, cond, true, false, ◌&&◌}
+use mathlib.Core.List.{List, [], ◌∷◌, ◌++◌}
 use native.Mathlib.Numerals.{add-one, sub-one}
 use native.Mathlib.Omega.{arith}
-use borrow.Author.Tests.{leb-true, eq-eqb, ne_eqb, le-leb, lt-leb}
-use lib.Dec.{leb}
+use borrow.Author.Tests.{leb-true, ne_eqb, le-leb, lt-leb}
+use denote.Bor.{Bor}
+use lib.Dec.{leb, eqb}
 use lib.IntN.{negsuc}
-use lib.ListN.{length, drop, get_or, drop_of_length-le}
+use lib.ListN.{length, take, drop, get_or, drop_of_length-le}
+use lib.Pointwise.{pointwise}
 use lib.Seq.{drop-cons}
+use Rattle.std.specs.Prelude.{Option, Some, None}
+use Rattle.std.specs.Option.{MatchOption}
 use Rattle.text.specs.Decode.{Got, got, bad, word, nibble, numeral, natural, up_to, hexes, instant, minus, plus, ◌▷◌}
+use Rattle.text.specs.Meaning.{left_of}
+use Rattle.text.proofs.Spelling.{word_spelled}
 
 -- ---- words
-module _ (w s : List ℕ) (i j : ℕ) where
-  pub word_end : length w ≤ j → word (drop j w) (drop i s) ≡ got tt (drop i s)
-  unfolding word
-  word_end h = rw (drop_of_length-le w h)
+-- a word is there where the front of s, as long as it, is the word
+word_front : (w s : List ℕ) → word w s ≡ cond (pointwise eqb (take (length w) s) w) (got tt (drop (length w) s)) bad
+unfolding word
+word_front [] s = refl
+word_front (c ∷ w) [] = refl
+word_front (c ∷ w) (b ∷ s) = by (eqb b c) (word_front w s)
+  where
+    by : (t : Bool) → word w s ≡ cond (pointwise eqb (take (length w) s) w) (got tt (drop (length w) s)) bad
+        → cond t (word w s) bad ≡ cond (t && pointwise eqb (take (length w) s) w) (got tt (drop (length w) s)) bad
+    by true e = e
+    by false e = refl
 
-  pub word_short : j < length w → length s ≤ i → word (drop j w) (drop i s) ≡ bad
-  unfolding word
-  word_short hj hi = rw (drop-cons w j 0 hj, drop_of_length-le s hi)
-
-  pub word_other : j < length w → i < length s → (get_or s i 0 ≡ get_or w j 0 → ⊥) → word (drop j w) (drop i s) ≡ bad
-  unfolding word
-  word_other hj hi e = rw (drop-cons w j 0 hj, drop-cons s i 0 hi, ne_eqb _ _ e)
-
-  pub word_same : j < length w → i < length s → get_or s i 0 ≡ get_or w j 0
-      → word (drop j w) (drop i s) ≡ word (drop (j + 1) w) (drop (i + 1) s)
-  unfolding word
-  word_same hj hi e = rw (drop-cons w j 0 hj, drop-cons s i 0 hi, eq-eqb _ _ e, add-one j, add-one i)
+-- what `strip_prefix` answers
+pub word_strip : (w s : List ℕ) (r : Option (Bor (List ℕ)))
+    → MatchOption r (pointwise eqb (take (length w) s) w ≡ false)
+    (λ x. (pointwise eqb (take (length w) s) w ≡ true) × (x.now ≡ drop (length w) s) × (length x.now + length w ≡ length s))
+    → word w s ≡ left_of r
+word_strip w s None e = rw (word_front w s, e)
+word_strip w s (Some x) e = rw (word_front w s, e.0, e.1)
 
 -- ---- digits
-module _ (s : List ℕ) (i n : ℕ) where
-  pub numeral_end : length s ≤ i → numeral n (drop i s) ≡ got n (drop i s)
+pub numeral_end : (n : ℕ) (s : List ℕ) → length s ≡ 0 → numeral n s ≡ got n s
+unfolding numeral
+numeral_end n [] h = refl
+numeral_end n (b ∷ s) h = absurd (omega arith)
+
+module _ {s : List ℕ} {b : ℕ} {t : List ℕ} (h : s ≡ b ∷ t) where
+  pub numeral_stop : (n : ℕ) → 10 ≤ nibble b → numeral n s ≡ got n s
   unfolding numeral
-  numeral_end h = rw (drop_of_length-le s h)
+  numeral_stop n l = rw (h, le-leb _ _ l)
 
-  pub numeral_stop : i < length s → 10 ≤ nibble (get_or s i 0) → numeral n (drop i s) ≡ got n (drop i s)
+  pub numeral_more : (n : ℕ) {d : ℕ} → d ≡ nibble b → d < 10 → numeral n s ≡ numeral (n * 10 + d) t
   unfolding numeral
-  numeral_stop hi h = rw (drop-cons s i 0 hi, le-leb _ _ h)
+  numeral_more n e l = rw (h, ← e, lt-leb _ _ l)
 
-  pub numeral_more : {d : ℕ} → d ≡ nibble (get_or s i 0) → i < length s → d < 10
-      → numeral n (drop i s) ≡ numeral (n * 10 + d) (drop (i + 1) s)
-  unfolding numeral
-  numeral_more e hi h = rw (drop-cons s i 0 hi, ← e, lt-leb _ _ h, add-one i)
+  pub natural_zero : nibble b ≡ 0 → natural s ≡ got 0 t
+  unfolding natural
+  natural_zero e = rw (h, e)
 
-  pub hexes_short : (k : ℕ) → 0 < k → length s ≤ i → hexes k n (drop i s) ≡ bad
+  pub natural_other : 10 ≤ nibble b → natural s ≡ bad
+  unfolding natural
+  natural_other l = rw (h, ne_eqb (nibble b) 0 (λ e. omega arith), le-leb _ _ l)
+
+  pub natural_more : {d : ℕ} → d ≡ nibble b → (d ≡ 0 → ⊥) → d < 10 → natural s ≡ numeral d t
+  unfolding natural
+  natural_more e z l = rw (h, ← e, ne_eqb _ _ z, lt-leb _ _ l)
+
+pub natural_none : (s : List ℕ) → length s ≡ 0 → natural s ≡ bad
+unfolding natural
+natural_none [] h = refl
+natural_none (b ∷ s) h = absurd (omega arith)
+
+-- of k hexadecimal digits, i are done
+module _ (ds t : List ℕ) (i n : ℕ) {k : ℕ} (h : length ds ≡ k) where
+  pub hexes_more : {d : ℕ} → i < k → d ≡ nibble (get_or ds i 0) → d < 16 → hexes (k - i) n (drop i ds ++ t) ≡ hexes (k - (i + 1)) (n * 16 + d) (drop (i + 1) ds ++ t)
   unfolding hexes
-  hexes_short zero h hi = absurd (omega arith)
-  hexes_short (suc k) h hi = rw (drop_of_length-le s hi)
+  hexes_more hi e l =
+      let p : k - i ≡ suc (k - (i + 1)) = omega arith in
+      rw (p, drop-cons ds i 0 (omega arith), ← e, lt-leb _ _ l, add-one i)
 
-  pub hexes_other : (k : ℕ) → 0 < k → i < length s → 16 ≤ nibble (get_or s i 0) → hexes k n (drop i s) ≡ bad
+  pub hexes_other : i < k → 16 ≤ nibble (get_or ds i 0) → hexes (k - i) n (drop i ds ++ t) ≡ bad
   unfolding hexes
-  hexes_other zero h hi d = absurd (omega arith)
-  hexes_other (suc k) h hi d = rw (drop-cons s i 0 hi, le-leb _ _ d)
+  hexes_other hi l =
+      let p : k - i ≡ suc (k - (i + 1)) = omega arith in
+      rw (p, drop-cons ds i 0 (omega arith), le-leb _ _ l)
 
-  pub hexes_more : (k : ℕ) {d : ℕ} → 0 < k → d ≡ nibble (get_or s i 0) → i < length s → d < 16
-      → hexes k n (drop i s) ≡ hexes (k - 1) (n * 16 + d) (drop (i + 1) s)
+  pub hexes_end : k ≤ i → hexes (k - i) n (drop i ds ++ t) ≡ got n t
   unfolding hexes
-  hexes_more zero h e hi l = absurd (omega arith)
-  hexes_more (suc k) h e hi l = rw (drop-cons s i 0 hi, ← e, lt-leb _ _ l, add-one i, sub-one)
+  hexes_end hi =
+      let p : k - i ≡ 0 = omega arith in
+      let q : length ds ≤ i = omega arith in
+      rw (p, drop_of_length-le ds q)
 
-  pub hexes_end : (k : ℕ) → k ≤ 0 → hexes k n (drop i s) ≡ got n (drop i s)
-  unfolding hexes
-  hexes_end zero h = refl
-  hexes_end (suc k) h = absurd (omega arith)
+-- too few bytes
+pub hexes_short : (k n : ℕ) (s : List ℕ) → length s < k → hexes k n s ≡ bad
+unfolding hexes
+hexes_short zero n s h = absurd (omega arith)
+hexes_short (suc k) n [] h = refl
+hexes_short (suc k) n (b ∷ s) h = rw (hexes_short k (n * 16 + nibble b) s (omega arith)) (same (leb 16 (nibble b)))
+  where
+    same : (t : Bool) → ◌≡◌ {A = Got ℕ} (cond t bad bad) bad
+    same true = refl
+    same false = refl
 
 -- digits only make a number larger
 pub numeral_over : (m n : ℕ) (s : List ℕ) → m < n → up_to m (numeral n s) ≡ bad
@@ -77,25 +113,7 @@ numeral_over m n (b ∷ s) h = over (leb 10 (nibble b)) (numeral_over m (n * 10 
     over true r = rw (lt-leb _ _ h)
     over false r = r
 
--- ---- numbers
-module _ (s : List ℕ) (i : ℕ) where
-  pub natural_none : length s ≤ i → natural (drop i s) ≡ bad
-  unfolding natural
-  natural_none h = rw (drop_of_length-le s h)
-
-  pub natural_zero : i < length s → nibble (get_or s i 0) ≡ 0 → natural (drop i s) ≡ got 0 (drop (i + 1) s)
-  unfolding natural
-  natural_zero hi h = rw (drop-cons s i 0 hi, eq-eqb _ _ h, add-one i)
-
-  pub natural_other : i < length s → 10 ≤ nibble (get_or s i 0) → natural (drop i s) ≡ bad
-  unfolding natural
-  natural_other hi h = rw (drop-cons s i 0 hi, ne_eqb (nibble (get_or s i 0)) 0 (λ e. omega arith), le-leb _ _ h)
-
-  pub natural_more : {d : ℕ} → d ≡ nibble (get_or s i 0) → i < length s → (d ≡ 0 → ⊥) → d < 10
-      → natural (drop i s) ≡ numeral d (drop (i + 1) s)
-  unfolding natural
-  natural_more e hi z h = rw (drop-cons s i 0 hi, ← e, ne_eqb _ _ z, lt-leb _ _ h, add-one i)
-
+-- ---- numbers of at most m
 pub up_to_in : (m n : ℕ) (s : List ℕ) → n ≤ m → up_to m (got n s) ≡ got n s
 up_to_in m n s h = rw (le-leb _ _ h)
 
@@ -111,18 +129,18 @@ up_to_bound m n s (got x t) e = within (leb x m) (leb-true x m) e
     within false h e = let z : ◌≡◌ {A = ℕ} 0 1 = cc in absurd (omega arith)
 
 -- ---- instants
-module _ (s : List ℕ) (i : ℕ) where
-  pub instant_none : length s ≤ i → instant (drop i s) ≡ bad
-  unfolding instant
-  instant_none h = rw (drop_of_length-le s h)
+pub instant_minus : (s t : List ℕ) → word (45 ∷ []) s ≡ got tt t → instant s ≡ up_to (2 ^ 63) (natural t) ▷ minus
+unfolding instant
+instant_minus s t e = rw (word_spelled (45 ∷ []) s t e)
 
-  pub instant_minus : i < length s → get_or s i 0 ≡ 45 → instant (drop i s) ≡ up_to (2 ^ 63) (natural (drop (i + 1) s)) ▷ minus
-  unfolding instant
-  instant_minus hi e = rw (drop-cons s i 0 hi, eq-eqb _ _ e, add-one i)
-
-  pub instant_plus : i < length s → (get_or s i 0 ≡ 45 → ⊥) → instant (drop i s) ≡ up_to (2 ^ 63 - 1) (natural (drop i s)) ▷ plus
-  unfolding instant
-  instant_plus hi e = rw (drop-cons s i 0 hi, ne_eqb _ _ e)
+pub instant_plus : (s : List ℕ) → word (45 ∷ []) s ≡ bad → instant s ≡ up_to (2 ^ 63 - 1) (natural s) ▷ plus
+unfolding word instant natural
+instant_plus [] e = refl
+instant_plus (b ∷ s) e = by (eqb b 45) e
+  where
+    by : (d : Bool) → cond d (got (tt {0}) s) bad ≡ bad → cond d (up_to (2 ^ 63) (natural s) ▷ minus) (up_to (2 ^ 63 - 1) (natural (b ∷ s)) ▷ plus) ≡ up_to (2 ^ 63 - 1) (natural (b ∷ s)) ▷ plus
+    by true e = let z : ◌≡◌ {A = ℕ} 0 1 = cc in absurd (omega arith)
+    by false e = refl
 
 pub minus_zero : (n : ℕ) (s : List ℕ) → n ≡ 0 → minus n s ≡ bad
 minus_zero n s e = rw e

@@ -1,18 +1,12 @@
--- What the answers of the code say, in terms of the decoders: each answer with a value has the place in s after it. Definitions only.
-use Rattle.std.specs.Prelude.{ℕ, List, ℤ, drop}
+-- What a reader's answer says, in terms of the decoders: a value and the bytes after it, or the bytes alone. Definitions only.
+use Rattle.std.specs.Prelude.{ℕ, List, Option, Some, None}
+use Rattle.std.specs.Borrow.{Bor}
 use Rattle.text.specs.Decode.{Got, got, bad}
-use Rattle.text.specs.declared.Next as next
-use Rattle.text.specs.declared.Number as number
-use Rattle.text.specs.declared.Instant as instant
 
-abbrev pub next_is : List ℕ → next.Next → Got (Unit {0})
-next_is s (next.TheVariants.At k) = got tt (drop k s)
-next_is s next.TheVariants.No = bad
+abbrev pub got_of : {A : Type 0} → Option (A × Bor (List ℕ)) → Got A
+got_of (Some x) = got x.0 x.1.now
+got_of None = bad
 
-abbrev pub number_is : List ℕ → number.Number → Got ℕ
-number_is s (number.TheVariants.Is n k) = got n (drop k s)
-number_is s number.TheVariants.No = bad
-
-abbrev pub instant_is : List ℕ → instant.Instant → Got ℤ
-instant_is s (instant.TheVariants.Is n k) = got n (drop k s)
-instant_is s instant.TheVariants.No = bad
+abbrev pub left_of : Option (Bor (List ℕ)) → Got (Unit {0})
+left_of (Some s) = got tt s.now
+left_of None = bad

@@ -1,115 +1,79 @@
-// Words and numbers, read from a place of a slice on. Any place is taken: past the end there is
-// nothing to read.
+// Words and numbers, read from the front of a slice. Each reader answers what it read and the bytes
+// after it, or None.
 #![tactic(auto)]
 
-ghost use Rattle.std.specs.Prelude.{◌≡◌, ◌-◌, ◌≤◌, ◌<◌, ◌^◌, drop, negsuc};
+ghost use Rattle.std.specs.Prelude.{◌≡◌, ◌-◌, ◌≤◌, ◌<◌, ◌^◌, MatchOption, negsuc};
 ghost use Rattle.text.specs.Decode.{hexes, instant, natural, nibble, numeral, up_to, word};
-ghost use Rattle.text.specs.Meaning.{instant_is, next_is, number_is};
-
-use text::{Instant, Next, Number};
+ghost use Rattle.text.specs.Meaning.{got_of, left_of};
 
 // The bytes of w.
-pub fn read_word(s: &[u8], at: usize, w: &[u8]) -> Next
-    ensures { word w.now (drop at s.now) ≡ next_is s.now result }
+pub fn read_word<'a>(s: &'a [u8], w: &[u8]) -> Option<&'a [u8]>
+    ensures { word w.now s.now ≡ left_of result }
 {
-    let mut i = at;
-    let mut j = 0;
-    while j < w.len() {
-        if s.len() <= i {
-            return Next::No;
-        }
-        if s[i] != w[j] {
-            return Next::No;
-        }
-        i += 1;
-        j += 1;
-    }
-    Next::At(i)
+    s.strip_prefix(w)
 }
 
-// What a digit stands for, and 16 for any other byte.
-fn nibble_of(b: u8) -> u64
-    ensures { result ≡ nibble b }
+// What a digit stands for in a base up to 16; the letters are lower case.
+#[tactic(auto, using(text::proofs::Digits::nibble_low, text::proofs::Digits::nibble_digit, text::proofs::Digits::nibble_middle, text::proofs::Digits::nibble_letter, text::proofs::Digits::nibble_high))]
+fn digit_of(b: u8, base: u64) -> Option<u64>
+    requires { base ≤ 16 }
+    ensures { MatchOption result (base ≤ nibble b) (λ d. (d ≡ nibble b) × (d < base)) }
 {
-    if b < 48 {
-        return 16;
-    }
-    if b <= 57 {
-        return (b - 48) as u64;
-    }
-    if b < 97 {
-        return 16;
-    }
-    if b <= 102 {
-        return (b - 87) as u64;
-    }
-    16
+    let digit = match b {
+        b'0'..=b'9' => b - b'0',
+        b'a'..=b'f' => b - b'a' + 10,
+        _ => return None,
+    };
+    let digit = digit as u64;
+    if digit < base { Some(digit) } else { None }
 }
 
 // A decimal number with no leading zeros, of at most limit.
-pub fn read_natural(s: &[u8], at: usize, limit: u64) -> Number
-    ensures { up_to limit (natural (drop at s.now)) ≡ number_is s.now result }
+pub fn read_natural(s: &[u8], limit: u64) -> Option<(u64, &[u8])>
+    ensures { up_to limit (natural s.now) ≡ got_of result }
 {
-    if s.len() <= at {
-        return Number::No;
+    let (b, rest) = s.split_first()?;
+    let first = digit_of(*b, 10)?;
+    if first == 0 {
+        return Some((0, rest));
     }
-    let d = nibble_of(s[at]);
-    if d == 0 {
-        return Number::Is(0, at + 1);
-    }
-    if 10 <= d {
-        return Number::No;
-    }
-    read_digits(s, at + 1, d, limit)
+    read_digits(rest, first, limit)
 }
 
 // More decimal digits, after one that is first. A number of more than 64 bits is above any limit.
-fn read_digits(s: &[u8], at: usize, first: u64, limit: u64) -> Number
-    requires { first < 10 }
-    ensures { up_to limit (numeral first (drop at s.now)) ≡ number_is s.now result }
+fn read_digits(s: &[u8], first: u64, limit: u64) -> Option<(u64, &[u8])>
+    ensures { up_to limit (numeral first s.now) ≡ got_of result }
 {
     let mut value = first;
-    let mut i = at;
-    while i < s.len() {
-        let d = nibble_of(s[i]);
-        if 10 <= d {
-            if value <= limit {
-                return Number::Is(value, i);
-            }
-            return Number::No;
-        }
-        if (18446744073709551615 - d) / 10 < value {
-            return Number::No;
-        }
-        value = value * 10 + d;
-        i += 1;
+    let mut rest = s;
+    // no `for`: the bytes left after the last digit are answered
+    while let Some((b, after)) = rest.split_first() {
+        let Some(digit) = digit_of(*b, 10) else {
+            break;
+        };
+        value = value.checked_mul(10)?.checked_add(digit)?;
+        rest = after;
     }
     if value <= limit {
-        return Number::Is(value, i);
+        Some((value, rest))
+    } else {
+        None
     }
-    Number::No
 }
 
 // An instant: a decimal number after at most a minus, and not -0.
-pub fn read_instant(s: &[u8], at: usize) -> Instant
-    ensures { instant (drop at s.now) ≡ instant_is s.now result }
+pub fn read_instant(s: &[u8]) -> Option<(i64, &[u8])>
+    ensures { instant s.now ≡ got_of result }
 {
-    if s.len() <= at {
-        return Instant::No;
-    }
-    if s[at] == 45 {
-        let Number::Is(n, k) = read_natural(s, at + 1, 9223372036854775808) else {
-            return Instant::No;
-        };
+    if let Some(digits) = read_word(s, b"-") {
+        let (n, rest) = read_natural(digits, 1 << 63)?;
         if n == 0 {
-            return Instant::No;
+            return None;
         }
-        return Instant::Is(negative(n), k);
+        return Some((negative(n), rest));
     }
-    let Number::Is(n, k) = read_natural(s, at, 9223372036854775807) else {
-        return Instant::No;
-    };
-    Instant::Is(n as i64, k)
+    let (n, rest) = read_natural(s, i64::MAX as u64)?;
+    Some((n as i64, rest))
 }
 
 // -n, where n may be 2^63.
@@ -121,24 +85,13 @@ fn negative(n: u64) -> i64
 }
 
 // Sixteen hexadecimal digits, in lower case.
-#[tactic(auto, using(text::proofs::Steps::hexes_other))]
-pub fn read_hex(s: &[u8], at: usize) -> Number
-    ensures { hexes 16 0 (drop at s.now) ≡ number_is s.now result }
+pub fn read_hex(s: &[u8]) -> Option<(u64, &[u8])>
+    ensures { hexes 16 0 s.now ≡ got_of result }
 {
-    let mut value: u64 = 0;
-    let mut i = at;
-    let mut left: u64 = 16;
-    while 0 < left {
-        if s.len() <= i {
-            return Number::No;
-        }
-        let d = nibble_of(s[i]);
-        if 16 <= d {
-            return Number::No;
-        }
-        value = value * 16 + d;
-        i += 1;
-        left -= 1;
+    let (digits, rest) = s.split_at_checked(16)?;
+    let mut value = 0;
+    for &b in digits {
+        value = value * 16 + digit_of(b, 16)?;
     }
-    Number::Is(value, i)
+    Some((value, rest))
 }

@@ -1,29 +1,26 @@
 // Texts put into a lent buffer, each whole or not at all, so that a buffer never holds a part.
 #![tactic(auto)]
 
-ghost use Rattle.std.specs.Prelude.{◌≡◌, negsuc, pos, ◌<ℤ◌};
+ghost use Rattle.std.specs.Prelude.{◌≡◌};
 ghost use Rattle.text.specs.Print.{Placed, decimal, hex, shown};
 
 // Puts w at the place at, where all of it has room, and answers the place after it. Otherwise it
 // leaves out as it is, and answers at.
+#[tactic(auto, using(text::proofs::Placing::place_all))]
 pub fn put(out: &mut [u8], at: usize, w: &[u8]) -> usize
     ensures { Placed out.old out.new at result w.now }
 {
-    if out.len() < w.len() {
-        return at;
+    match at.checked_add(w.len()) {
+        Some(end) if end <= out.len() => {
+            out[at..end].copy_from_slice(w);
+            end
+        }
+        _ => at,
     }
-    if out.len() - w.len() < at {
-        return at;
-    }
-    let mut i = 0;
-    while i < w.len() {
-        out[at + i] = w[i];
-        i += 1;
-    }
-    at + i
 }
 
 // Puts a number in decimal, as put does.
+#[tactic(auto, using(text::proofs::Digits::decimal_is))]
 pub fn put_decimal(out: &mut [u8], at: usize, n: u64) -> usize
     ensures { Placed out.old out.new at result (decimal n) }
 {
@@ -37,25 +34,17 @@ pub fn put_decimal(out: &mut [u8], at: usize, n: u64) -> usize
 pub fn put_instant(out: &mut [u8], at: usize, i: i64) -> usize
     ensures { Placed out.old out.new at result (shown i) }
 {
-    if i < 0 {
-        let n = depth(i);
-        let mut text = [0u8; 21];
-        let next = put(&mut text, 0, b"-");
-        let end = put_decimal(&mut text, next, n + 1);
-        return put(out, at, &text[..end]);
+    if i >= 0 {
+        return put_decimal(out, at, i as u64);
     }
-    put_decimal(out, at, i as u64)
-}
-
-// How far a number below zero lies below -1.
-fn depth(i: i64) -> u64
-    requires { i <ℤ pos 0 }
-    ensures { i ≡ negsuc result }
-{
-    (-1 - i) as u64
+    let mut text = [0u8; 21];
+    let digits = put(&mut text, 0, b"-");
+    let end = put_decimal(&mut text, digits, i.unsigned_abs());
+    put(out, at, &text[..end])
 }
 
 // Puts sixteen hexadecimal digits, as put does.
+#[tactic(auto, using(text::proofs::Digits::hex_is))]
 pub fn put_hex(out: &mut [u8], at: usize, n: u64) -> usize
     ensures { Placed out.old out.new at result (hex n) }
 {

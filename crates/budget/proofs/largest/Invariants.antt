@@ -1,11 +1,7 @@
-use Prim.Native.Nat.{◌-◌, ◌≤◌}
 use mathlib.Core.Path.{◌≡◌}
-use lib.ListN.{length, drop}
+use lib.ListN.{drop}
 use Rattle.budget.specs.Budget.{largest, largest_from}
 use Rattle.budget.proofs.largest.Given as goal
 
-abbrev pub invariant-loop-i : goal.invariant-loop-i
-invariant-loop-i l = (l.i ≤ length l.counts) × (largest_from l.most (drop l.i l.counts) ≡ largest l.counts)
-
-abbrev pub decreases-loop-i : goal.decreases-loop-i
-decreases-loop-i l = length l.counts - l.i
+abbrev pub invariant-loop-count : goal.invariant-loop-count
+invariant-loop-count l = largest_from l.most (drop l.count-index l.counts) ≡ largest l.counts

@@ -1,10 +1,7 @@
 -- `ef3m_runs::fill`: after i turns the first i rows are those of the flat numbers, and the others as they were.
-use Rattle.std.proofs.Common.{◌≡◌, ◌-◌, ◌≤◌}
+use Rattle.std.proofs.Common.{◌≡◌}
 use Rattle.ef3m_runs.proofs.Lists.{cur}
 use Rattle.ef3m_runs.proofs.fill.Given as goal
 
 abbrev pub invariant-loop-i : goal.invariant-loop-i
-invariant-loop-i l = (l.i ≤ l.n) × (l.rows ≡ cur l.flat l.initial.rows l.i)
-
-abbrev pub decreases-loop-i : goal.decreases-loop-i
-decreases-loop-i l = l.n - l.i
+invariant-loop-i l = l.rows ≡ cur l.flat l.initial.rows l.i

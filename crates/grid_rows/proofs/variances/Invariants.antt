@@ -1,5 +1,5 @@
 use mathlib.Core.Path.{◌≡◌}
-use Prim.Native.Nat.{ℕ, ◌-◌, ◌≤◌}
+use Prim.Native.Nat.{ℕ, ◌≤◌}
 use lib.Ieee.{nan}
 use lib.ListN.{get_or, length}
 use Rattle.moments.specs.Figures.{listed}
@@ -7,7 +7,4 @@ use Rattle.grid_rows.specs.Rows.{Variances}
 use Rattle.grid_rows.proofs.variances.Given as goal
 
 abbrev pub invariant-loop-j : goal.invariant-loop-j
-invariant-loop-j l = (l.j ≤ l.k) × (length l.v ≡ 256) × Variances (listed l.a) l.initial.v l.weights l.from l.j l.v × ((i : ℕ) → l.j ≤ i → get_or l.v i nan ≡ get_or l.initial.v i nan)
-
-abbrev pub decreases-loop-j : goal.decreases-loop-j
-decreases-loop-j l = l.k - l.j
+invariant-loop-j l = (length l.v ≡ 256) × Variances (listed l.a) l.initial.v l.weights l.from l.j l.v × ((i : ℕ) → l.j ≤ i → get_or l.v i nan ≡ get_or l.initial.v i nan)

@@ -1,12 +1,17 @@
--- `number::larger` meets its contract: each answer is a fact of `Sizes.antt`. Assumes nothing.
+-- `number::larger` meets its contract, by its tests (`Sizes.antt`). Assumes nothing.
+use Rattle.std.proofs.Common.{sym, ◌∙◌}
 use Rattle.number.proofs.Sizes.{larger_nan, larger_second, larger_first}
 use Rattle.number.proofs.larger.Goals as goal
-
-pub returns-then-x : goal.returns-then-x
-returns-then-x c = larger_nan _ _ c.if-x.true
+use Rattle.number.proofs.larger.Goals.{then-is_nan, else-is_nan}
 
 pub returns-then-x-y : goal.returns-then-x-y
-returns-then-x-y c = larger_second _ _ c.if-x-y.true
+returns-then-x-y c = elim c.if-is_nan.branch [
+  | then-is_nan w ↦ larger_nan _ _ (sym c.is_nan.ensures.value ∙ w.if-is_nan.true)
+  | else-is_nan w ↦ larger_second _ _ (sym w.value-is ∙ c.if-x-y.true)
+]
 
-pub returns : goal.returns
-returns c = larger_first _ _ c.if-x.false c.if-x-y.false
+pub returns-else-x-y : goal.returns-else-x-y
+returns-else-x-y c = elim c.if-is_nan.branch [
+  | then-is_nan w ↦ cc
+  | else-is_nan w ↦ larger_first _ _ (sym c.is_nan.ensures.value ∙ w.if-is_nan.false) (sym w.value-is ∙ c.if-x-y.false)
+]

@@ -48,8 +48,3 @@ turn x n r a r' b l h e = go l.fuel l.enough (ne_eqb b 0 (λ z. omega arith)) l.
       enough = half_le m;
       same = sym (ap (λ (t : Bool). total one (pow_by (mul binary64) (suc d) t l.product a b)) f) ∙ s;
     }
-
--- where nothing is left, the square is not needed
-pub idle : (x : Float) (n : ℕ) (r a a' : Float) (b : ℕ) → Left x n r a b → T (fits binary64 a') → b ≤ 0 → Left x n r a' b
-unfolding pow_by
-idle x n r a a' b l g h = record { product = l.product; is = l.is; held = g; fuel = 0; enough = h; same = sym l.is ∙ ends x n r a b l h }

@@ -4,5 +4,5 @@ use native.Mathlib.Omega.{arith}
 use lib.Seq.{set_out}
 use Rattle.protocol_lists.proofs.keep.Goals as goal
 
-pub returns-else-at-xs : goal.returns-else-at-xs
-returns-else-at-xs c = sym (set_out _ _ _ (omega arith))
+pub returns-else-i-xs : goal.returns-else-i-xs
+returns-else-i-xs g c = sym (set_out _ _ _ (omega arith))

@@ -1,16 +1,11 @@
 -- of n entries, i are read and kept, and n - i stand in what is left
-use Prim.Native.Nat.{◌-◌, ◌≤◌}
-use mathlib.Core.Path.{◌≡◌}
-use lib.ListN.{length, drop}
-use lib.Seq.{sets}
-use Rattle.protocol.specs.Words.{next_fraction}
-use Rattle.protocol_lists.specs.Lists.{entries, values_of}
+use Rattle.std.proofs.Common.{◌≡◌, ◌-◌}
+use Rattle.std.proofs.lemmas.List.Edits.{sets}
+use Rattle.protocol_lists.specs.Lists.{entries_of, values_of}
 use Rattle.protocol_lists.proofs.read_next_list.Given as goal
 
 abbrev pub invariant-loop-i : goal.invariant-loop-i
-invariant-loop-i l =
-    (length l.xs ≡ length l.initial.xs) × (l.i ≤ l.n) × (entries l.n (drop l.a l.s) ≡ entries (l.n - l.i) (drop l.k l.s))
-    × (sets l.initial.xs 0 (values_of next_fraction l.n (drop l.a l.s)) ≡ sets l.xs l.i (values_of next_fraction (l.n - l.i) (drop l.k l.s)))
-
-abbrev pub decreases-loop-i : goal.decreases-loop-i
-decreases-loop-i l = l.n - l.i
+invariant-loop-i g l = record {
+  left : entries_of g.T.Entry.form l.count l.initial.rest ≡ entries_of g.T.Entry.form (l.count - l.i) l.rest;
+  stored : sets l.initial.xs 0 (values_of g.T.Entry.form l.count l.initial.rest) ≡ sets l.xs l.i (values_of g.T.Entry.form (l.count - l.i) l.rest);
+}

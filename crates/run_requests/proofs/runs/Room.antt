@@ -1,77 +1,47 @@
--- Several runs by the room for their rows: room for as many as there are runs is as good as room for 64, and less is refused. By the refusals in their order. Assumes nothing.
-use Prim.Native.Nat.{ℕ, zero, suc, ◌≤◌, ◌<◌}
-use mathlib.Core.Path.{◌≡◌, refl}
-use mathlib.Core.Bool.{Bool, true, false, cond}
-use mathlib.Core.List.{List, []}
+-- Several runs by the room for their rows: room for more than 64 is as good as room for 64. By the refusals in their order. Assumes nothing.
+use Prim.Native.Nat.{ℕ, ◌≤◌, min}
+use mathlib.Core.Path.{◌≡◌, ◌∙◌}
+use mathlib.Core.List.{List, ◌++◌, append_assoc}
 use native.Mathlib.Omega.{arith}
-use borrow.Author.Tests.{le-ltb, lt-ltb, ne_eqb}
-use lib.Dec.{eqb, ltb}
 use lib.Ieee.{Float}
-use lib.ListN.{length, take}
-use lib.Seq.{take-append_seam}
+use lib.ListN.{drop, length, length-append, length-drop, take}
+use lib.Seq.{length-take-le, take-append_seam}
+use Rattle.std.proofs.Common.{Ok, Result}
+use Rattle.std.proofs.lemmas.Bool.Decides.{nat_tests}
+use Rattle.refusal.specs.declared.Refusal.{Refusal}
 use Rattle.walk.specs.declared.M2N.{M2N}
-use Rattle.grid.specs.declared.FitResultRow.{FitResultRow}
-use Rattle.fit_refusals.specs.Refusals.{first_of, grid_refusal, runs_refusal}
-use Rattle.fit_runs.specs.Runs.{filled_by, mp_fit, mp_rows, rows_to, run_rows, unrefused}
-use Rattle.fit_runs.specs.declared.Filled.TheVariants.{Unfilled, Rows}
-use Rattle.fit_runs.proofs.Running.{few_rows}
+use Rattle.grid_rows.specs.declared.FitResultRow.{FitResultRow}
+use Rattle.fit_refusals.specs.Refusals.{runs_refusal}
+use Rattle.fit_runs.specs.Runs.{mp_fit, mp_rows, run_rows}
+use Rattle.fit_runs.proofs.Running.{count_is, few_rows}
 
-module _ (m : M2N) (ws : List Float) where
-  -- ---- room enough
-  by_many : (none many : Bool) (grid : ℕ) → ◌≡◌ {A = ℕ} (cond none 0 (cond many 13 (first_of grid 0))) (cond none 0 (cond many 13 (first_of grid (cond many 8 0))))
-  by_many none true grid = refl
-  by_many none false grid = refl
-
-  enough : (room : ℕ) → m.n_runs ≤ room → runs_refusal m ws room ≡ runs_refusal m ws 64
+module _ (m : M2N) (ws : List Float) (room : ℕ) where
+  refused_in : runs_refusal m ws (min room 64) ≡ runs_refusal m ws room
   unfolding runs_refusal
-  enough room h = rw (le-ltb room m.n_runs h) (by_many (eqb m.n_runs 0) (ltb 64 m.n_runs) (grid_refusal m m.epsilon m.n_runs ws))
+  refused_in = grind (arith, nat_tests)
 
-  rows_enough : (room : ℕ) → m.n_runs ≤ room → run_rows m ws room ≡ run_rows m ws 64
+  rows_in : run_rows m ws (min room 64) ≡ run_rows m ws room
   unfolding run_rows
-  rows_enough room h = rw (enough room h)
+  rows_in = rw refused_in
 
-  pub fit_enough : (room : ℕ) → m.n_runs ≤ room → mp_fit m ws 64 ≡ mp_fit m ws room
+  fit_in : mp_fit m ws (min room 64) ≡ mp_fit m ws room
   unfolding mp_fit
-  fit_enough room h = rw (enough room h)
+  fit_in = rw (rows_in, refused_in)
 
-  -- the rows of runs that had 64 places
-  first_rows : (rows : List FitResultRow) → length rows ≡ 64 → take (length (run_rows m ws 64)) (mp_rows m ws rows) ≡ run_rows m ws 64
-  unfolding mp_rows
-  first_rows rows e = rw e (take-append_seam _ _)
+  pub few : (n : ℕ) → mp_fit m ws room ≡ Ok n → (n ≤ room) × (n ≤ 64)
+  few n e = rw (← count_is m ws room n e) (few_rows m ws room)
 
-  pub rows_front : (room : ℕ) (rows : List FitResultRow) → m.n_runs ≤ room → length rows ≡ 64 → take (length (run_rows m ws room)) (mp_rows m ws rows) ≡ run_rows m ws room
-  rows_front room rows h e = rw (rows_enough room h) (first_rows rows e)
+  -- of 64 rows the first k are lent
+  module _ (rows : List FitResultRow) (k : ℕ) (long : length rows ≡ 64) (is : k ≡ min room 64) where
+    lent : length (take k rows) ≡ min room 64
+    lent = length-take-le k rows (omega arith) ∙ is
 
-  -- ---- too little room
-  by_grid : (many : Bool) (grid : ℕ) (rows : List FitResultRow) → unrefused (cond many 13 (first_of grid 8)) rows ≡ []
-  by_grid true grid rows = refl
-  by_grid false zero rows = refl
-  by_grid false (suc k) rows = refl
+    pub answered : {r x : Result ℕ Refusal} → r ≡ mp_fit m ws (length (take k rows)) → r ≡ x → mp_fit m ws room ≡ x
+    answered e h = rw (← fit_in, ← lent, ← e) h
 
-  pub no_rows : (room : ℕ) → room < m.n_runs → run_rows m ws room ≡ []
-  unfolding run_rows runs_refusal
-  no_rows room h =
-      rw (ne_eqb m.n_runs 0 (λ e. omega (arith, h, e)), lt-ltb room m.n_runs h)
-      (by_grid (ltb 64 m.n_runs) (grid_refusal m m.epsilon m.n_runs ws) (rows_to m ws m.n_runs))
+    pub all_rows : (after : List FitResultRow) → length after ≡ length (take k rows) → length (after ++ drop k rows) ≡ 64
+    all_rows after e = omega (arith, length-append after (drop k rows), length-drop k rows, lent, e)
 
-  -- ---- what is answered
-  module _ (n : ℕ) where
-    by_rows : (number k : ℕ) → filled_by number k ≡ Rows n → n ≡ k
-    by_rows zero k e = cc
-    by_rows (suc j) k e = let z : ◌≡◌ {A = ℕ} 0 1 = cc in absurd (omega arith)
-
-    by_number : (number k : ℕ) (rows : List FitResultRow) → filled_by number k ≡ Unfilled n → unrefused number rows ≡ []
-    by_number zero k rows e = let z : ◌≡◌ {A = ℕ} 0 1 = cc in absurd (omega arith)
-    by_number (suc j) k rows e = refl
-
-    module _ (room : ℕ) where
-      pub are_rows : mp_fit m ws room ≡ Rows n → n ≡ length (run_rows m ws room)
-      unfolding mp_fit
-      are_rows e = by_rows (runs_refusal m ws room) (length (run_rows m ws room)) e
-
-      pub unfilled : mp_fit m ws room ≡ Unfilled n → run_rows m ws room ≡ []
-      unfolding mp_fit run_rows
-      unfilled e = by_number (runs_refusal m ws room) _ (rows_to m ws m.n_runs) e
-
-      pub few : mp_fit m ws room ≡ Rows n → (n ≤ room) × (n ≤ 64)
-      few e = rw (are_rows e) (few_rows m ws room)
+    pub rows_lent : (n : ℕ) → mp_fit m ws room ≡ Ok n → take n (mp_rows m ws (take k rows) ++ drop k rows) ≡ run_rows m ws room
+    unfolding mp_rows
+    rows_lent n e = rw (← count_is m ws room n e, lent, rows_in, append_assoc (run_rows m ws room)) (take-append_seam _ _)

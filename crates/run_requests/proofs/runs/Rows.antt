@@ -1,14 +1,15 @@
 -- Rows put one by one in front of a list: after i turns the first i stand there, six numbers each. By induction on the rows. Assumes nothing.
 use Prim.Native.Nat.{ℕ, zero, suc, ◌+◌, ◌*◌, ◌≤◌, ◌<◌}
-use mathlib.Core.Path.{◌≡◌, refl, ◌∙◌, ap}
+use mathlib.Core.Path.{◌≡◌, refl, sym, ◌∙◌, ap}
 use mathlib.Core.List.{List, [], ◌∷◌, ◌++◌}
 use native.Mathlib.Numerals.{add-one}
 use native.Mathlib.Omega.{arith}
 use lib.Ieee.{Float}
-use lib.ListN.{drop, get_or, length, length-append, length-drop, take}
-use lib.Seq.{drop-append-add, drop-drop, length-take-le, sets, sets-eq, take-append_seam}
-use Rattle.grid.specs.declared.FitResultRow.{FitResultRow}
-use Rattle.fit_runs.specs.Runs.{flat_of, six}
+use lib.ListN.{drop, get_or, length, length-append, take}
+use lib.Seq.{drop-append-add, drop-drop, length-take-le, take-append_seam}
+use Rattle.grid_rows.specs.FitResultRow.{six, with_row_at}
+use Rattle.grid_rows.specs.declared.FitResultRow.{FitResultRow}
+use Rattle.fit_runs.specs.Runs.{flat_of}
 use Rattle.fit_runs.proofs.Flats.{length_flat}
 use Rattle.run_requests.specs.Runs.{with_rows}
 
@@ -22,22 +23,16 @@ flat_long : (rows : List FitResultRow) (i : ℕ) → i ≤ length rows → lengt
 flat_long rows i h = length_flat (take i rows) ∙ ap (λ (k : ℕ). 6 * k) (length-take-le i rows h)
 
 -- a row behind the numbers p, which stand in front of xs
-six_put : (p xs : List Float) (r : FitResultRow) → length p + 6 ≤ length xs → sets (p ++ drop (length p) xs) (length p) (six r) ≡ (p ++ six r) ++ drop (length (p ++ six r)) xs
-six_put p xs r h =
+six_put : (p xs : List Float) (at : ℕ) (r : FitResultRow) → at ≡ length p → take at (p ++ drop (length p) xs) ++ six r ++ drop (at + 6) (p ++ drop (length p) xs) ≡ (p ++ six r) ++ drop (length (p ++ six r)) xs
+six_put p xs at r h =
     let q = drop (length p) xs in
-    sets-eq (six r) (p ++ q) (length p) (omega (arith, length-append p q, length-drop (length p) xs))
-    ∙ rw (take-append_seam p q, drop-append-add p q 6, drop-drop 6 (length p) xs, length-append p (six r))
+    rw (h, take-append_seam p q, drop-append-add p q 6, drop-drop 6 (length p) xs, length-append p (six r))
 
 module _ (rows : List FitResultRow) (xs : List Float) (i : ℕ) where
-  pub row_put : (none : FitResultRow) → i < length rows → 6 * i + 6 ≤ length xs → sets (with_rows (take i rows) xs) (6 * i) (six (get_or rows i none)) ≡ with_rows (take (i + 1) rows) xs
-  row_put none h fits =
+  pub row_put : (none : FitResultRow) → i < length rows → with_row_at (with_rows (take i rows) xs) i (get_or rows i none) ≡ with_rows (take (i + 1) rows) xs
+  row_put none h =
       let long : length (flat_of (take i rows)) ≡ 6 * i = flat_long rows i (omega arith) in
-      rw (add-one i, flat_next rows i none h, ← long) (six_put (flat_of (take i rows)) xs (get_or rows i none) (omega arith))
-
-  pub rows_long : i ≤ length rows → 6 * i ≤ length xs → length (with_rows (take i rows) xs) ≡ length xs
-  rows_long h fits =
-      let p = flat_of (take i rows) in
-      omega (arith, flat_long rows i h, length-append p (drop (length p) xs), length-drop (length p) xs)
+      rw (add-one i, flat_next rows i none h) (six_put (flat_of (take i rows)) xs (6 * i) (get_or rows i none) (sym long))
 
 pub none_put : (rows : List FitResultRow) (xs : List Float) → xs ≡ with_rows (take 0 rows) xs
 unfolding flat_of

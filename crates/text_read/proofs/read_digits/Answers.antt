@@ -1,49 +1,48 @@
--- `text_read::read_digits` meets its contract: the digits from i on, after those that made value, decode as all do, and digits only make a number larger (`Steps.antt`).
--- The measure is what is left of s. Assumes nothing.
-use Prim.Native.Nat.{◌+◌, ◌*◌}
-use mathlib.Core.Path.{refl, ◌∙◌, ap}
+-- `text_read::read_digits` meets its contract: the digits that are left, after those that made value, decode as all do, and digits only make a number larger (`Steps.antt`).
+-- The measure is how many bytes are left. Assumes nothing.
+use Prim.Native.Nat.{ℕ, ◌+◌, ◌*◌}
+use mathlib.Core.Path.{◌≡◌, ◌∙◌, ap}
 use native.Mathlib.Omega.{arith}
-use borrow.Author.Rules.{rules}
-use lib.ListN.{drop}
-use Rattle.text.specs.Decode.{up_to}
+use Rattle.text.specs.Decode.{up_to, numeral}
 use Rattle.text.proofs.Steps.{numeral_end, numeral_stop, numeral_more, numeral_over, up_to_in, up_to_out}
 use Rattle.text_read.proofs.read_digits.Goals as goal
+use Rattle.text_read.proofs.read_digits.Goals.{in-Some+in_default-digit_of, in_default}
 
-pub loop-i-init : goal.loop-i-init
-loop-i-init c = (refl, search rules)
+pub returns-in_err-checked_mul : goal.returns-in_err-checked_mul
+returns-in_err-checked_mul c = let l = c.loop-b in
+    let d = c.in-Some-digit_of in
+    rw c.from_residual.ensures
+    (ap (up_to c.args.limit) (l.invariant ∙ numeral_more c.in-Some.ensures.cases.0 l.value d.ensures.0 d.ensures.1)
+    ∙ numeral_over c.args.limit (l.value * 10 + d.digit) c.in-Some.after.now (omega arith))
 
+pub returns-in_err-value : goal.returns-in_err-value
+returns-in_err-value c = let l = c.loop-b in
+    let d = c.in-Some-digit_of in
+    rw c.from_residual-in_err-value.ensures
+    (ap (up_to c.args.limit) (l.invariant ∙ numeral_more c.in-Some.ensures.cases.0 l.value d.ensures.0 d.ensures.1)
+    ∙ numeral_over c.args.limit (l.value * 10 + d.digit) c.in-Some.after.now (omega arith))
+
+pub loop-b-preserved : goal.loop-b-preserved
+loop-b-preserved c = let l = c.loop-b in
+    let d = c.in-Some-digit_of in
+    let e : l.value * 10 + d.digit ≡ c.in_ok-value.value = omega arith in
+    l.invariant ∙ numeral_more c.in-Some.ensures.cases.0 l.value d.ensures.0 d.ensures.1 ∙ ap (λ (n : ℕ). numeral n c.in-Some.after.now) e
+
+-- where the loop ends, no digit is left
 pub returns-then-value-limit : goal.returns-then-value-limit
-returns-then-value-limit c = let l = c.loop-i in
-    let a = c.args in
-    ap (up_to a.limit) (l.invariant.0 ∙ numeral_stop a.s.now l.i l.value (omega arith) (omega arith))
-    ∙ up_to_in a.limit l.value (drop l.i a.s.now) (omega arith)
+returns-then-value-limit c = let l = c.loop-b in
+    ap (up_to c.args.limit)
+    (l.invariant ∙ elim c.match-split_first.branch [
+      | in-Some+in_default-digit_of w ↦ numeral_stop w.in-Some.ensures.cases.0 l.value w.in_default-digit_of.ensures
+      | in_default w ↦ numeral_end l.value l.rest.now w.in_default.ensures.cases
+    ])
+    ∙ up_to_in c.args.limit l.value l.rest.now (omega arith)
 
-pub returns-then-d-ge10 : goal.returns-then-d-ge10
-returns-then-d-ge10 c = let l = c.loop-i in
-    let a = c.args in
-    ap (up_to a.limit) (l.invariant.0 ∙ numeral_stop a.s.now l.i l.value (omega arith) (omega arith))
-    ∙ up_to_out a.limit l.value (drop l.i a.s.now) (omega arith)
-
-pub returns-then-d-value : goal.returns-then-d-value
-returns-then-d-value c = let l = c.loop-i in
-    let a = c.args in
-    let d = c.nibble_of-d in
-    ap (up_to a.limit) (l.invariant.0 ∙ numeral_more a.s.now l.i l.value d.ensures (omega arith) (omega arith))
-    ∙ numeral_over a.limit (l.value * 10 + d.result) (drop (l.i + 1) a.s.now) (omega arith)
-
-pub loop-i-preserved : goal.loop-i-preserved
-loop-i-preserved c = let l = c.loop-i in
-    let a = c.args in
-    (l.invariant.0 ∙ numeral_more a.s.now l.i l.value c.nibble_of-d.ensures (omega arith) (omega arith), omega arith)
-
-pub returns-then-value-limit-2 : goal.returns-then-value-limit-2
-returns-then-value-limit-2 c = let l = c.loop-i in
-    let a = c.args in
-    ap (up_to a.limit) (l.invariant.0 ∙ numeral_end a.s.now l.i l.value (omega arith))
-    ∙ up_to_in a.limit l.value (drop l.i a.s.now) (omega arith)
-
-pub returns : goal.returns
-returns c = let l = c.loop-i in
-    let a = c.args in
-    ap (up_to a.limit) (l.invariant.0 ∙ numeral_end a.s.now l.i l.value (omega arith))
-    ∙ up_to_out a.limit l.value (drop l.i a.s.now) (omega arith)
+pub returns-else-value-limit : goal.returns-else-value-limit
+returns-else-value-limit c = let l = c.loop-b in
+    ap (up_to c.args.limit)
+    (l.invariant ∙ elim c.match-split_first.branch [
+      | in-Some+in_default-digit_of w ↦ numeral_stop w.in-Some.ensures.cases.0 l.value w.in_default-digit_of.ensures
+      | in_default w ↦ numeral_end l.value l.rest.now w.in_default.ensures.cases
+    ])
+    ∙ up_to_out c.args.limit l.value l.rest.now (omega arith)

@@ -1,11 +1,9 @@
-use Prim.Native.Nat.{◌-◌, ◌^◌, ◌<◌}
-use mathlib.Core.Path.{◌≡◌}
-use lib.ListN.{length, drop}
+use Rattle.std.proofs.Common.{◌≡◌, length}
 use Rattle.text.specs.Decode.{numeral}
 use Rattle.text_read.proofs.read_digits.Given as goal
 
-abbrev pub invariant-loop-i : goal.invariant-loop-i
-invariant-loop-i l = (numeral l.first (drop l.at l.s) ≡ numeral l.value (drop l.i l.s)) × (l.value < 2 ^ 64)
+abbrev pub invariant-loop-b : goal.invariant-loop-b
+invariant-loop-b l = numeral l.first l.s ≡ numeral l.value l.rest
 
-abbrev pub decreases-loop-i : goal.decreases-loop-i
-decreases-loop-i l = length l.s - l.i
+abbrev pub decreases-loop-b : goal.decreases-loop-b
+decreases-loop-b l = length l.rest

@@ -1,52 +1,39 @@
 -- `text_write::put_instant` meets its contract. Below zero the minus and the digits go into an array that has room for both, so its front is the number, printed (`Placing.antt`).
 -- Assumes nothing.
-use Prim.Native.Nat.{◌+◌}
-use mathlib.Core.Path.{◌≡◌, sym, ◌∙◌}
-use mathlib.Core.List.{◌++◌}
+use Prim.Native.Nat.{ℕ}
+use mathlib.Core.Path.{◌≡◌, refl, sym}
+use mathlib.Core.List.{List, ◌++◌}
 use native.Mathlib.Omega.{arith}
-use lib.IntN.{pos, negsuc}
+use lib.ListN.{length}
 use lib.Seq.{length-take-le}
-use lib.Signed.{◌≤ℤ◌}
 use mir.Syntax.{w64}
 use mir.ValLaws.{to_z-of_z}
 use Rattle.text.specs.Bytes.{bytes}
-use Rattle.text.specs.Print.{Fronts, decimal}
+use Rattle.text.specs.Print.{Fronts, Placed, decimal}
 use Rattle.text.proofs.Digits.{decimal_short}
 use Rattle.text.proofs.Placing.{placed_then, fronts}
-use Rattle.text.proofs.Signs.{under_bound, shown_under, not_less, over_yes, over_fits, shown_over}
+use Rattle.text.proofs.Signs.{shown_above, shown_below}
 use Rattle.text_write.proofs.put_instant.Goals as goal
 
-pub overflow_add-n : goal.overflow_add-n
-overflow_add-n c =
-    let low : c.args.i ≡ negsuc c.depth-n.result = sym (to_z-of_z w64 c.args.i c.ranges.i) ∙ c.depth-n.ensures in
-    omega (arith, under_bound _ c.depth-n.result c.ranges.i low)
+-- a minus and a number's digits, at the front
+minus : (n : ℕ) {o p q : List ℕ} {a r : ℕ} → length o ≡ 21 → Placed o p 0 a (bytes "-") → Placed p q a r (decimal n) → Fronts q r (bytes "-" ++ decimal n)
+minus n {o} {p} {q} {a} {r} long first then =
+    let l = decimal_short n in
+    fronts _ _ _ _ (omega (arith, l)) (placed_then _ _ _ _ _ _ _ _ (omega (arith, l)) first then)
+
+pub returns-then-i-ge0 : goal.returns-then-i-ge0
+returns-then-i-ge0 c =
+    let same = to_z-of_z w64 c.args.i c.ranges.i in
+    rw (shown_above c.args.i (rw same at c.if-i-ge0.true)) (rw same at c.put_decimal.ensures)
 
 pub slice_bounds-text-end : goal.slice_bounds-text-end
-slice_bounds-text-end c =
-    let l = decimal_short (c.depth-n.result + 1) in
-    (fronts _ _ _ _ (omega (arith, l)) (placed_then _ _ _ _ _ _ _ _ (omega (arith, l)) c.put-next.ensures c.put_decimal-end.ensures)).within
+slice_bounds-text-end c = (minus _ refl c.put-digits.ensures c.put_decimal-end.ensures).within
 
-pub returns-then-i-lt0 : goal.returns-then-i-lt0
-returns-then-i-lt0 c =
-    let low : c.args.i ≡ negsuc c.depth-n.result = sym (to_z-of_z w64 c.args.i c.ranges.i) ∙ c.depth-n.ensures in
-    let l = decimal_short (c.depth-n.result + 1) in
-    let front : Fronts c.put_decimal-end.new.out c.put_decimal-end.result (bytes "-" ++ decimal (c.depth-n.result + 1)) =
-    fronts _ _ _ _ (omega (arith, l)) (placed_then _ _ _ _ _ _ _ _ (omega (arith, l)) c.put-next.ensures c.put_decimal-end.ensures) in
-    rw (shown_under _ c.depth-n.result low) (rw front.is at c.put.ensures)
-
-pub overflow_cast-i : goal.overflow_cast-i
-overflow_cast-i c =
-    let high : pos 0 ≤ℤ c.args.i = not_less _ (rw (to_z-of_z w64 c.args.i c.ranges.i) at c.if-i-lt0.false) in
-    rw (to_z-of_z w64 c.args.i c.ranges.i) (over_yes _ high, record { fits = over_fits _ c.ranges.i high })
+pub slice_bounds-put-end-3 : goal.slice_bounds-put-end-3
+slice_bounds-put-end-3 c = sym (length-take-le _ _ (minus _ refl c.put-digits.ensures c.put_decimal-end.ensures).within)
 
 pub returns : goal.returns
 returns c =
-    let high : pos 0 ≤ℤ c.args.i = not_less _ (rw (to_z-of_z w64 c.args.i c.ranges.i) at c.if-i-lt0.false) in
-    rw (shown_over c.args.i high) (rw (to_z-of_z w64 c.args.i c.ranges.i) at c.put_decimal.ensures)
-
-pub slice_bounds-put-end-then-i-lt0-2 : goal.slice_bounds-put-end-then-i-lt0-2
-slice_bounds-put-end-then-i-lt0-2 c =
-    let l = decimal_short (c.depth-n.result + 1) in
-    let front : Fronts c.put_decimal-end.new.out c.put_decimal-end.result (bytes "-" ++ decimal (c.depth-n.result + 1)) =
-    fronts _ _ _ _ (omega (arith, l)) (placed_then _ _ _ _ _ _ _ _ (omega (arith, l)) c.put-next.ensures c.put_decimal-end.ensures) in
-    sym (length-take-le _ _ front.within)
+    let same = to_z-of_z w64 c.args.i c.ranges.i in
+    rw (shown_below c.args.i (rw same at c.if-i-ge0.false), ← same, ← c.unsigned_abs.ensures.value)
+    (rw (minus _ refl c.put-digits.ensures c.put_decimal-end.ensures).is at c.put.ensures)

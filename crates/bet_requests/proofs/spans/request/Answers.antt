@@ -1,71 +1,47 @@
 -- `bet_requests::spans::request` meets its contract, by whether each word is there, and nothing after them. Assumes nothing.
-use mathlib.Core.Path.{refl, sym, ◌∙◌}
+use mathlib.Core.Path.{◌≡◌, refl, ◌∙◌}
 use native.Mathlib.Omega.{arith}
-use lib.ListN.{length-take}
-use lib.Seq.{length-take-le}
-use borrow.Author.Rules.{rules}
-use Rattle.replies.proofs.Asking.{ended, not_ended}
-use Rattle.bet_requests.proofs.spans.Asking.{all_asked, all_read, no_ends, no_room, no_sides, no_starts}
+use Rattle.std.proofs.Common.{rules, None}
+use Rattle.protocol.specs.Words.{next_fraction, next_instant, only}
+use Rattle.protocol_lists.proofs.Listing.{list_first, list_got, no_list}
+use Rattle.replies.proofs.Asking.{only_list, only_none, only_old, only_some}
+use Rattle.bet_requests.specs.Spans.{asked, left_by, reply_of}
 use Rattle.bet_requests.proofs.spans.request.Goals as goal
+use Rattle.bet_requests.proofs.spans.request.Goals.{in-ConcurrentSides, in-Budget}
 
-pub returns-in_default : goal.returns-in_default
-returns-in_default c =
+pub returns-in_err-n_starts : goal.returns-in_err-n_starts
+unfolding asked
+returns-in_err-n_starts c =
+    rw (c.from_residual-in_err-n_starts.ensures, c.in_ok-room.ensures, no_list next_instant _ c.in_err-n_starts.ensures.counted) (refl, refl)
+
+pub returns-in_err-n_ends : goal.returns-in_err-n_ends
+unfolding asked
+returns-in_err-n_ends c =
+    let starts = list_got next_instant _ _ _ c.in_ok-n_starts.ensures.counted in
+    rw (c.from_residual-in_err-n_ends.ensures, c.in_ok-room.ensures, starts, no_list next_instant _ c.in_err-n_ends.ensures.counted) (refl, refl)
+
+pub returns-in_err-n_sides : goal.returns-in_err-n_sides
+unfolding asked
+returns-in_err-n_sides c =
     let args = c.args in
-    rw (no_room args.s.now args.at c.read_next_natural.ensures c.in_default.is) (refl, refl)
-
-pub returns-in_default-read_next_instants : goal.returns-in_default-read_next_instants
-returns-in_default-read_next_instants c =
-    let args = c.args in
-    rw (no_starts args.s.now args.at c.read_next_natural.ensures c.in-Is.is c.read_next_instants.ensures.0 c.in_default-read_next_instants.is) (refl, refl)
-
-pub returns-in_default-read_next_instants-2 : goal.returns-in_default-read_next_instants-2
-returns-in_default-read_next_instants-2 c =
-    let args = c.args in
-    rw
-    (no_ends args.s.now args.at c.read_next_natural.ensures c.in-Is.is
-    c.instants_room-starts.result c.read_next_instants.ensures c.in-Is-read_next_instants.is
-    c.read_next_instants-2.ensures.0 c.in_default-read_next_instants-2.is)
-    (refl, refl)
-
-pub returns-in_default-read_next_list : goal.returns-in_default-read_next_list
-returns-in_default-read_next_list c =
-    let args = c.args in
-    rw
-    (no_sides args.s.now args.at c.read_next_natural.ensures c.in-Is.is
-    c.instants_room-starts.result c.read_next_instants.ensures c.in-Is-read_next_instants.is
-    c.instants_room-ends.result c.read_next_instants-2.ensures c.in-Is-read_next_instants-2.is
-    c.read_next_list.ensures.0 c.in_default-read_next_list.is)
-    (refl, refl)
-
-pub returns-then-e-s : goal.returns-then-e-s
-returns-then-e-s c =
-    let args = c.args in
-    rw
-    (all_read args.s.now args.at c.read_next_natural.ensures c.in-Is.is
-    c.instants_room-starts.result c.read_next_instants.ensures c.in-Is-read_next_instants.is
-    c.instants_room-ends.result c.read_next_instants-2.ensures c.in-Is-read_next_instants-2.is
-    c.fractions_room-sides.result c.read_next_list.ensures c.in-Is-read_next_list.is)
-    (not_ended _ _ args.s.now _ c.if-e-s.true, not_ended _ _ args.s.now _ c.if-e-s.true)
-
-pub slice_bounds-spans_reply-end : goal.slice_bounds-spans_reply-end
-slice_bounds-spans_reply-end c = sym (length-take-le _ _ (omega arith))
-
-pub slice_bounds-spans_reply-end-2 : goal.slice_bounds-spans_reply-end-2
-slice_bounds-spans_reply-end-2 c = sym (length-take-le _ _ (omega arith))
-
-pub slice_bounds-spans_reply-end-3 : goal.slice_bounds-spans_reply-end-3
-slice_bounds-spans_reply-end-3 c = sym (length-take-le _ _ (omega arith))
-
-pub spans_reply-requires : goal.spans_reply-requires
-spans_reply-requires c = simp length-take (omega arith)
+    let starts = list_got next_instant _ _ _ c.in_ok-n_starts.ensures.counted in
+    let ends = list_got next_instant _ _ _ c.in_ok-n_ends.ensures.counted in
+    let h : None ≡ only (asked args.size args.s.now) = rw (c.in_ok-room.ensures, starts, ends) (only_list next_fraction _ _ _ c.read_next_list-3.ensures.counted c.in_err-n_sides.ensures) in
+    (c.from_residual-in_err-n_sides.ensures ∙ only_none (reply_of args.kind _) _ h, only_old (left_by args.kind args.xs.now) _ _ h)
 
 pub returns : goal.returns
+unfolding asked
 returns c =
     let args = c.args in
-    rw
-    (all_asked args.s.now args.at c.read_next_natural.ensures c.in-Is.is
-    c.instants_room-starts.result c.read_next_instants.ensures c.in-Is-read_next_instants.is
-    c.instants_room-ends.result c.read_next_instants-2.ensures c.in-Is-read_next_instants-2.is
-    c.fractions_room-sides.result c.read_next_list.ensures c.in-Is-read_next_list.is
-    c.least-i.ensures c.least-j.ensures c.least-k.ensures (search rules) (search rules) (search rules))
-    (c.spans_reply.ensures.0 ∙ ended _ _ args.s.now _ c.if-e-s.false, c.spans_reply.ensures.1 ∙ ended _ _ args.s.now _ c.if-e-s.false)
+    let starts = list_got next_instant _ _ _ c.in_ok-n_starts.ensures.counted in
+    let ends = list_got next_instant _ _ _ c.in_ok-n_ends.ensures.counted in
+    let read = c.read_next_list-3.ensures.counted ∙ only_some _ c.in_ok-n_sides.ensures in
+    let sides = list_got next_fraction _ _ _ read in
+    let kept_starts = list_first next_instant _ _ _ c.in_ok-n_starts.ensures.counted _ c.in_ok-n_starts.ensures.kept c.min.ensures (omega arith) in
+    let kept_ends = list_first next_instant _ _ _ c.in_ok-n_ends.ensures.counted _ c.in_ok-n_ends.ensures.kept c.min-2.ensures (omega arith) in
+    let kept_sides = list_first next_fraction _ _ _ read _ c.read_next_list-3.ensures.kept c.min-3.ensures (omega arith) in
+    rw (c.in_ok-room.ensures, starts, ends, sides, ← kept_starts, ← kept_ends, ← kept_sides)
+    (elim c.match-kind.branch [
+      | in-ConcurrentSides w ↦ search rules
+      | in-Budget w ↦ search rules
+    ])

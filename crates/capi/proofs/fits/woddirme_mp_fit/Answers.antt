@@ -3,14 +3,15 @@ use Rattle.capi.proofs.Several.{short, roomy, leaves}
 use Rattle.capi.proofs.fits.woddirme_mp_fit.Goals as goal
 
 pub returns-then-fit-lt12 : goal.returns-then-fit-lt12
-returns-then-fit-lt12 c = let a = c.args in
+returns-then-fit-lt12 c =
+    let a = c.args in
     let e = short a.moments.now a.variant a.factor a.max_iter a.n_runs a.weights.now a.fit.now a.rows.now c.if-fit-lt12.true in
-    (rw e, rw e, rw e)
+    (rw e c.from.ensures, rw e, rw e)
 
 pub leave_rows-requires : goal.leave_rows-requires
-leave_rows-requires c = roomy _ _ c.args.rows.now _ c.mp_fit_flat-f.ensures
+leave_rows-requires c = roomy _ _ c.args.rows.now _ c.mp_fit_flat.ensures
 
 pub returns : goal.returns
 returns c =
     let a = c.args in
-    leaves a.moments.now a.variant a.factor a.max_iter a.n_runs a.weights.now a.fit.now a.rows.now _ _ _ _ _ _ c.state_of-m.ensures c.mp_fit_flat-f.ensures c.if-fit-lt12.false c.leave_rows.ensures
+    leaves a.moments.now a.variant a.factor a.max_iter a.n_runs a.weights.now a.fit.now a.rows.now _ _ _ _ _ _ c.state_of-m.ensures c.mp_fit_flat.ensures c.if-fit-lt12.false c.leave_rows.ensures

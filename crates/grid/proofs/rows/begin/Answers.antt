@@ -1,7 +1,10 @@
--- `grid::rows::begin` meets its contract: by what its calls promise. Assumes nothing.
+-- `grid::rows::begin` meets its contract: the error is the sum of the given squares. Assumes nothing.
+use lib.Ieee.{of_bits}
+use native.Mathlib.Omega.{arith}
 use Rattle.grid.specs.Rows.{begun}
+use Rattle.grid.proofs.Sums.{first_squares}
 use Rattle.grid.proofs.rows.begin.Goals as goal
 
 pub returns : goal.returns
-unfolding begun
-returns c = rw (c.with_best.ensures, c.no_params.ensures, c.sum_of_squares-error.ensures)
+unfolding begun of_bits
+returns c = rw (c.sum_of_squares.ensures, first_squares c.args.m.moments c.args.m.len (omega (arith, c.requires)))

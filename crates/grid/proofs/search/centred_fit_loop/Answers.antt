@@ -1,4 +1,3 @@
--- `grid::search::centred_fit_loop` meets its contract: by what its calls promise. Assumes nothing.
 use Rattle.grid.proofs.Searching.{centred_is, five_given}
 use Rattle.grid.proofs.search.centred_fit_loop.Goals as goal
 

@@ -1,9 +1,8 @@
--- `printing_values::rows::entry` meets its contract: past the end of the list it answers NaN. Assumes nothing.
-use mathlib.Core.Path.{sym, ◌∙◌}
-use lib.Ieee.{nan}
-use lib.ListN.{get_or-eq_default}
-use Rattle.text.proofs.Floats.{zero_by_zero}
+-- `printing_values::rows::entry` meets its contract: the pattern of NAN is NaN's. Assumes nothing.
+use Rattle.std.proofs.Common.{arith}
+use Rattle.std.specs.Float.Ieee.{of_bits, of_fields}
 use Rattle.printing_values.proofs.rows.entry.Goals as goal
 
 pub returns : goal.returns
-returns c = zero_by_zero ∙ sym (get_or-eq_default c.args.xs.now nan c.if-i-xs.false)
+unfolding of_bits of_fields
+returns c = rw (c.unwrap_or.ensures, c.copied.ensures) (c.get.ensures.lookup.4 (omega arith) _)

@@ -8,39 +8,27 @@ use lib.ListN.{length}
 use lib.Seq.{length-take-le}
 use Rattle.printing_values.specs.Rows.{rows_from}
 use Rattle.printing_values.proofs.Putting.{puts_none}
-use Rattle.printing_values.proofs.Spans.{left_row, no_row, no_start, rows_none, two_columns}
+use Rattle.printing_values.proofs.Spans.{left_row, no_row, no_start, two_columns}
 use Rattle.printing_values.proofs.rows.put_rows.Goals as goal
 
 pub returns-in_default : goal.returns-in_default
 unfolding rows_from
 returns-in_default c = rw c.in_default.ensures puts_none
 
-pub loop-i-init : goal.loop-i-init
-loop-i-init c = rows_none _ _ _ _
-
-pub shape_of-out-in_default-read_next_instant : goal.shape_of-out-in_default-read_next_instant
-shape_of-out-in_default-read_next_instant c = c.loop-i.invariant.same
-
 pub returns-in_default-read_next_instant : goal.returns-in_default-read_next_instant
 returns-in_default-read_next_instant c =
-    rw (c.in-Is.ensures, ← two_columns, ← c.least-columns.ensures)
+    rw (c.in-Some.ensures, ← two_columns, ← c.min-most.ensures)
     (no_start _ _ _ _ _ (omega arith) c.in_default-read_next_instant.ensures c.loop-i.invariant)
 
-pub slice_bounds-v-end : goal.slice_bounds-v-end
-slice_bounds-v-end c = omega (arith, c.least-columns.ensures, ap length c.two_at-v.ensures)
-
 pub slice_bounds-put_fractions-end : goal.slice_bounds-put_fractions-end
-slice_bounds-put_fractions-end c = sym (length-take-le _ _ (omega (arith, c.least-columns.ensures, ap length c.two_at-v.ensures)))
+slice_bounds-put_fractions-end c = sym (length-take-le _ _ (omega (arith, c.min-most.ensures, ap length c.two_at-v.ensures)))
 
 pub loop-i-preserved : goal.loop-i-preserved
 loop-i-preserved c =
-    let p = rw (to_z-of_z w64 c.in-Is-read_next_instant.t (search rules)) at c.put_instant-to.ensures in
-    left_row _ _ _ _ _ (omega arith) c.in-Is-read_next_instant.ensures c.loop-i.invariant p c.two_at-v.ensures c.put_fractions-to.ensures
-
-pub shape_of-out : goal.shape_of-out
-shape_of-out c = c.loop-i.invariant.same
+    let p = rw (to_z-of_z w64 c.in-Some-read_next_instant.t (search rules)) at c.put_instant-to.ensures in
+    left_row _ _ _ _ _ (omega arith) c.in-Some-read_next_instant.ensures c.loop-i.invariant p c.two_at-v.ensures c.put_fractions-to.ensures
 
 pub returns : goal.returns
 returns c =
-    rw (c.in-Is.ensures, ← two_columns, ← c.least-columns.ensures)
+    rw (c.in-Some.ensures, ← two_columns, ← c.min-most.ensures)
     (no_row _ _ _ _ _ (omega arith) c.loop-i.invariant)

@@ -1,6 +1,5 @@
 -- of n rows, i are put, and the starts of n - i stand in what is left of the request
 use Prim.Native.Nat.{◌-◌}
-use lib.ListN.{drop}
 use Rattle.protocol.specs.Words.{next_instant}
 use Rattle.protocol_lists.specs.Lists.{values_of}
 use Rattle.printing_values.specs.Rows.{rows_from}
@@ -9,7 +8,4 @@ use Rattle.printing_values.proofs.rows.put_rows.Given as goal
 
 abbrev pub invariant-loop-i : goal.invariant-loop-i
 invariant-loop-i l =
-    Left l.initial.out l.at (rows_from l.columns l.xs 0 (values_of next_instant l.n (drop l.a l.s))) l.out l.to (rows_from l.columns l.xs l.i (values_of next_instant (l.n - l.i) (drop l.k l.s)))
-
-abbrev pub decreases-loop-i : goal.decreases-loop-i
-decreases-loop-i l = l.n - l.i
+    Left l.initial.out l.at (rows_from l.most l.xs 0 (values_of next_instant l.n l.initial.rest)) l.out l.to (rows_from l.most l.xs l.i (values_of next_instant (l.n - l.i) l.rest))

@@ -1,18 +1,25 @@
--- `search_requests::searches::single_fit` meets its contract, by whether the variant and the list of moments are there. Assumes nothing.
+-- `search_requests::searches::single_fit` meets its contract, by whether the weights are there, and nothing after them. Assumes nothing.
+use mathlib.Core.Path.{refl, ◌∙◌}
+use native.Mathlib.Omega.{arith}
 use lib.Ieee.{of_bits}
 use Rattle.protocol.specs.Words.{next_fraction}
-use Rattle.protocol_lists.proofs.Listing.{list_got, list_long, no_list}
+use Rattle.protocol_lists.proofs.Listing.{list_first, list_got, list_long}
+use Rattle.replies.proofs.Asking.{only_list, only_some}
 use Rattle.search_requests.proofs.searches.single_fit.Goals as goal
 
-pub returns-in_default : goal.returns-in_default
-returns-in_default c = rw (c.read_next_natural.ensures, c.in_default.is)
-
-pub returns-in_default-read_next_list : goal.returns-in_default-read_next_list
-returns-in_default-read_next_list c =
-    rw (c.read_next_natural.ensures, c.in-Is.is, no_list next_fraction _ (rw c.in_default-read_next_list.is at c.read_next_list.ensures.0))
+pub returns-in_err-n : goal.returns-in_err-n
+returns-in_err-n c =
+    let moments = list_got next_fraction _ _ _ c.in_ok-len.ensures.counted in
+    rw (c.from_residual-in_err-n.ensures, c.in_ok-variant.ensures, moments, c.in_ok-epsilon.ensures, c.in_ok-epsilon_override.ensures, c.in_ok-factor.ensures, c.in_ok-max_iter.ensures, c.in_ok-state.ensures)
+    (only_list next_fraction _ _ _ c.read_next_list-2.ensures.counted c.in_err-n.ensures)
 
 pub returns : goal.returns
 unfolding of_bits
 returns c =
-    let e = rw c.in-Is-read_next_list.is at c.read_next_list.ensures.0 in
-    rw (c.read_next_natural.ensures, c.in-Is.is, list_got next_fraction _ _ _ e, list_long next_fraction _ _ _ e, c.search_from.ensures, c.read_next_list.ensures.1)
+    let moments = list_got next_fraction _ _ _ c.in_ok-len.ensures.counted in
+    let long = list_long next_fraction _ _ _ c.in_ok-len.ensures.counted in
+    let read = c.read_next_list-2.ensures.counted ∙ only_some _ c.in_ok-n.ensures in
+    let weights = list_got next_fraction _ _ _ read in
+    let kept = list_first next_fraction _ _ _ read _ c.read_next_list-2.ensures.kept c.min.ensures (omega arith) in
+    rw (c.in_ok-variant.ensures, moments, c.in_ok-epsilon.ensures, c.in_ok-epsilon_override.ensures, c.in_ok-factor.ensures, c.in_ok-max_iter.ensures, c.in_ok-state.ensures, weights, ← kept, long, ← c.in_ok-len.ensures.kept, c.reply.ensures, c.single_fit_through-fitted.ensures)
+    refl

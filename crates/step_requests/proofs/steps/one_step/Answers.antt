@@ -1,14 +1,14 @@
--- `step_requests::steps::one_step` meets its contract, by whether the list of moments is there; 17 of it are enough (`Enough.antt`). Assumes nothing.
-use lib.ListN.{drop}
+-- `step_requests::steps::one_step` meets its contract: what has no place is refused alike (`Cut.antt`). Assumes nothing.
+use mathlib.Core.Path.{◌∙◌}
+use native.Mathlib.Omega.{arith}
+use Rattle.std.proofs.Common.{rules}
 use Rattle.protocol.specs.Words.{next_fraction}
-use Rattle.protocol_lists.proofs.Listing.{no_list}
-use Rattle.step_requests.proofs.Enough.{a_step}
+use Rattle.protocol_lists.proofs.Listing.{list_first, list_got}
+use Rattle.replies.proofs.Asking.{only_some}
+use Rattle.step_requests.proofs.Cut.{step_cut}
 use Rattle.step_requests.proofs.steps.one_step.Goals as goal
-
-pub returns-in_default : goal.returns-in_default
-returns-in_default c = rw (no_list next_fraction _ (rw c.in_default.is at c.read_next_list.ensures.0))
 
 pub returns : goal.returns
 returns c =
-    let a = c.args in
-    a_step a.iter (drop a.at a.s.now) _ _ _ _ (rw c.in-Is.is at c.read_next_list.ensures.0) c.read_next_list.ensures.1 c.step_from.ensures
+    let kept = list_first next_fraction _ _ _ c.in_ok-n.ensures.counted _ c.in_ok-n.ensures.kept c.min.ensures (omega arith) in
+    rw (list_got next_fraction _ _ _ c.in_ok-n.ensures.counted, c.in_ok-mu_2.ensures, c.read_next_fraction-2.ensures ∙ only_some _ c.in_ok-p_1.ensures, ← step_cut, ← kept) (search rules)

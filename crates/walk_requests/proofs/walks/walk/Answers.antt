@@ -1,18 +1,21 @@
--- `walk_requests::walks::walk` meets its contract, by whether the variant and the list of moments are there. Assumes nothing.
+-- `walk_requests::walks::walk` meets its contract, by whether the state is there and nothing after it. Assumes nothing.
+use mathlib.Core.Path.{◌∙◌, refl}
 use lib.Ieee.{of_bits}
 use Rattle.protocol.specs.Words.{next_fraction}
-use Rattle.protocol_lists.proofs.Listing.{list_got, list_long, no_list}
+use Rattle.protocol_lists.proofs.Listing.{list_got, list_long}
+use Rattle.replies.proofs.Asking.{only_none, only_some}
 use Rattle.walk_requests.proofs.walks.walk.Goals as goal
 
-pub returns-in_default : goal.returns-in_default
-returns-in_default c = rw (c.read_next_natural.ensures, c.in_default.is)
-
-pub returns-in_default-read_next_list : goal.returns-in_default-read_next_list
-returns-in_default-read_next_list c =
-    rw (c.read_next_natural.ensures, c.in-Is.is, no_list next_fraction _ (rw c.in_default-read_next_list.is at c.read_next_list.ensures.0))
+pub returns-in_err-state : goal.returns-in_err-state
+returns-in_err-state c =
+    let read = c.in_ok-len.ensures.counted in
+    rw (c.from_residual-in_err-state.ensures, c.in_ok-variant.ensures, list_got next_fraction _ _ _ read, c.in_ok-mu_2.ensures, c.in_ok-p_1.ensures, c.in_ok-epsilon.ensures, c.in_ok-max_iter.ensures, c.read_next_state.ensures)
+    (only_none _ _ c.in_err-state.ensures)
 
 pub returns : goal.returns
 unfolding of_bits
 returns c =
-    let e = rw c.in-Is-read_next_list.is at c.read_next_list.ensures.0 in
-    rw (c.read_next_natural.ensures, c.in-Is.is, list_got next_fraction _ _ _ e, list_long next_fraction _ _ _ e, c.walk_from.ensures, c.read_next_list.ensures.1)
+    let read = c.in_ok-len.ensures.counted in
+    let state = c.read_next_state.ensures ∙ only_some _ c.in_ok-state.ensures in
+    rw (c.in_ok-variant.ensures, list_got next_fraction _ _ _ read, list_long next_fraction _ _ _ read, c.in_ok-mu_2.ensures, c.in_ok-p_1.ensures, c.in_ok-epsilon.ensures, c.in_ok-max_iter.ensures, state, c.reply.ensures, c.iterate_from.ensures, c.in_ok-len.ensures.kept)
+    refl
