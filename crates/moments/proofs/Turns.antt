@@ -1,11 +1,11 @@
 -- The turns of the loops of centered_moment and raw_moment, and the lent list. Assumes nothing.
 use mathlib.Core.Path.{◌≡◌, refl, sym, ap, ◌∙◌}
 use mathlib.Core.List.{List, [], ◌∷◌, ◌++◌, append_assoc}
-use Prim.Native.Nat.{ℕ, zero, suc, ◌+◌, ◌-◌, ◌≤◌, ◌<◌}
+use Prim.Native.Nat.{ℕ, zero, suc, ◌+◌, ◌-◌, ◌<◌}
 use native.Mathlib.Omega.{arith}
 use native.Mathlib.Numerals.{add-one}
 use lib.ListN.{length, get_or, set, drop, length-append}
-use lib.Seq.{drop-cons, set_at, length_front, length-take-le, drop-set-lt}
+use lib.Seq.{drop-cons, set_at, drop-set-lt}
 use lib.Ieee.{Float, nan, binary64, add, mul}
 use Rattle.float.specs.Constants.{nought}
 use Rattle.float.specs.Power.{power}
@@ -89,7 +89,3 @@ pub raw_done : (c : List Float) (mean : Float) (out w : List Float) (k i : ℕ) 
 unfolding raw_moment raw_out filled
 raw_done c mean out w k i h e j q p =
     (rw (← h) (ap Ok e), rw (← h) (p ∙ fill_same c mean out i q ∙ ap (filled c mean out) (j ∙ e)))
-
-pub length_filled : (c : List Float) (mean : Float) (out : List Float) (i : ℕ) → i ≤ length out → length (filled c mean out i) ≡ length out
-unfolding filled
-length_filled c mean out i h = length_front out (firsts (raw_value c mean) i) i (length_firsts (raw_value c mean) i ∙ sym (length-take-le i out h))

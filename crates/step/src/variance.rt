@@ -33,6 +33,7 @@ pub(crate) fn variance_at(m: Five, mu_2: f64, p_1: f64) -> Variance
 
 // The variance sigma_2^2 that a step works out and tests before it takes a root. Who looks through many
 // starts can pass over those at which it is below zero.
+#[tactic(auto, unfolding(crate::specs::Parts::variance_at, crate::specs::Steps::sigma2_squared))]
 pub fn sigma_2_squared(m: Five, mu_2: f64, p_1: f64) -> f64
     ensures { result ≡ sigma2_squared (listed m) mu_2 p_1 }
 {

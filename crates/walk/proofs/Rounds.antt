@@ -197,11 +197,6 @@ turns m f count μ p seen r l lt s (rounds_on n to hμ hp ht hl e) =
     same_fit : over m f s.trail ≡ f
     same_fit = ap (λ g. over m g s.trail) s.kept ∙ round_again m.len (five_of m.moments) s.before s.trail ∙ sym s.kept
 
-pub onward : (count limit : ℕ) (μ p : Float) (seen : Seen) (r : Turn) → Turned count limit μ p seen r → count ≤ r.count
-onward count limit μ p seen r (stays e) = omega (arith, ap (λ x. x.count) e)
-onward count limit μ p seen r (looks e) = omega (arith, ap (λ x. x.count) e)
-onward count limit μ p seen r (rounds_on n to hμ hp ht hl e) = omega (arith, ap (λ x. x.count) e, ht)
-
 -- ---- the code's parts
 pub one_float : (x y : Float) → T (fits binary64 x) → T (fits binary64 y) → to_bits binary64 x ≡ to_bits binary64 y → x ≡ y
 one_float x y hx hy e = sym (of_bits-to_bits binary64 x hx) ∙ ap (of_bits binary64) e ∙ of_bits-to_bits binary64 y hy

@@ -99,6 +99,7 @@ pub fn first_five(m: M2N) -> Five
 
 // The variant's step. Document 01's state names it by a number, so it is looked up here and not handed
 // to the walk as a function.
+#[tactic(auto, unfolding(crate::specs::Trail::step_for))]
 fn stepped(variant: usize, m: Five, mu_2: f64, p_1: f64) -> Step
     ensures { result ≡ step_for variant (listed m) mu_2 p_1 }
 {
@@ -284,6 +285,7 @@ fn walk(m: M2N, mu_2: f64, p_1: f64) -> Walked
 }
 
 // Iterates the variant's step from a mean and a weight.
+#[tactic(auto, using(crate::proofs::Trails::refused))]
 pub fn iterate_from(m: M2N, mu_2: f64, p_1: f64) -> Walked
     ensures { result ≡ walk_of m mu_2 p_1 }
 {

@@ -3,7 +3,7 @@ use mathlib.Core.Path.{◌≡◌, sym, ◌∙◌}
 use Prim.Native.Nat.{◌<◌}
 use mathlib.Core.Bool.{true, false}
 use native.Mathlib.Omega.{arith}
-use Rattle.walk.proofs.Rounds.{since_now, since_on, turns, onward}
+use Rattle.walk.proofs.Rounds.{since_now, since_on, turns}
 use Rattle.walk.proofs.Trails.{begins, stepped_on, fit_on, settled_on, spent, turned_away, settles, goes_on, four_given}
 use Rattle.walk.proofs.walk.Goals as goal
 
@@ -27,13 +27,6 @@ returns-then-abs-m c =
     let a = c.first_five-a.ensures in
     settles m _ _ _ _ _ _ _ _ h (stepped_on _ m.moments _ _ _ _ _ a c.stepped-s.ensures c.in-Admitted.is) (fit_on _ m.moments _ _ _ _ a c.fit_after-f.ensures) (settled_on _ _ _ _ true c.abs.ensures c.if-abs-m.true) c.with_fit-then-abs-m.ensures c.ended_after-then-abs-m.ensures
     ∙ sym c.loop-count.invariant.1
-
-pub count_rounds-t-requires : goal.count_rounds-t-requires
-count_rounds-t-requires c =
-    (omega (arith, c.loop-count.invariant.2.counted), omega arith)
-
-pub loop-count-smaller : goal.loop-count-smaller
-loop-count-smaller c = omega (arith, onward _ _ _ _ _ _ c.count_rounds-t.ensures)
 
 pub loop-count-preserved : goal.loop-count-preserved
 loop-count-preserved c =
