@@ -10,7 +10,7 @@ use Rattle.grid.specs.Search.{single_fit}
 use Rattle.grid.specs.declared.Fitted.{Fitted}
 use Rattle.grid_rows.specs.FitResultRow.{six}
 use Rattle.grid_rows.specs.declared.FitResultRow.{FitResultRow}
-use Rattle.capi_states.specs.States.{state_of, with_state}
+use Rattle.capi_states.specs.States.{state_of, with_front, with_state}
 
 -- what came of one search, and of several runs
 abbrev pub Outcome : Type 0
@@ -26,7 +26,7 @@ override_of (x ∷ l) = Some x
 
 -- the lent numbers with a row put into them
 abbrev pub with_row : List Float → FitResultRow → List Float
-with_row l r = six r ++ drop 6 l
+with_row l r = with_front l (six r)
 
 -- how many rows the best fit gives, and where its row goes
 abbrev pub how_many : Option FitResultRow → ℕ

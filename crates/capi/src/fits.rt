@@ -14,6 +14,7 @@ fn override_of(l: &[f64]) -> Option<f64>
 }
 
 // Without a row the lent numbers stay as they were.
+#[tactic(auto, using(crate::proofs::Fronts::front_whole))]
 fn leave_row(best: Option<FitResultRow>, row: &mut [f64]) -> usize
     requires { 6 ≤ length row.old }
     ensures { (result ≡ how_many best) × (row.new ≡ with_best row.old best) }
