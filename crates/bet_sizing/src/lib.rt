@@ -3,6 +3,6 @@
 
 pub mod counts; // counts.rt: the counts
 pub mod refusals; // refusals.rt: what is turned away
-pub mod sorting; // sorting.rt: sorted lists of keys
+pub mod sorting; // sorting.rt: the rank of a key in a sorted list
 
 pub use counts::get_concurrent_sides;

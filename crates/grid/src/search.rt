@@ -19,8 +19,8 @@ fn deviation(m: M2N) -> f64
     root::sqrt(rows::centred(m, 2))
 }
 
-// On the moments as given. State, epsilon and weights stay three parameters, here and below: clauses
-// about a struct that borrows say `start.entry.m`, and one with a ghost field takes no `..`.
+// On the moments as given. State, epsilon and weights stay three parameters, here and below: a struct
+// that borrows the weights makes each clause longer.
 #[tactic(auto, using(crate::proofs::Searching::plain_is))]
 fn plain_fit(m: M2N, epsilon: f64, weights: &[f64]) -> Searched
     requires { Served m epsilon weights.now }
