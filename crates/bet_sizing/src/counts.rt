@@ -78,6 +78,7 @@ impl Spans<'_> {
         requires { length self.now.starts.now ≤ length out.old }
         ensures { Counted side self.now.starts.now self.now.ends.now self.now.sides.now out.old out.new }
     {
+        // arrays for the most spans that there may be: a Vec may run out of memory
         let mut s = [0u64; 16384];
         let mut e = [0u64; 16384];
         let m = self.collect(side, &mut s, &mut e);

@@ -50,6 +50,7 @@ pub fn bet_size_budget(
 ) -> Result<usize, Refusal>
     ensures { BetSizeBudget starts.now ends.now sides.now size.old size.new result }
 {
+    // arrays for the most spans that there may be: a Vec may run out of memory
     let mut long = [0.0f64; 16384];
     let mut short = [0.0f64; 16384];
     let n = bet_sizing::get_concurrent_sides(starts, ends, sides, &mut long, &mut short)?;

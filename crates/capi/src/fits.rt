@@ -1,4 +1,5 @@
-// One search and several runs, for C.
+// One search and several runs, for C. Parameters stand one by one, as the header declares them: a struct
+// would tie C to its layout.
 ghost use Rattle.std.specs.Prelude.{◌≡◌, ◌≤◌, length};
 ghost use Rattle.capi.specs.Fits.{MpFitLeaves, Roomy, SingleFitLeaves, filled_of, fitted, how_many, outcome_of, override_of, ran, with_best};
 

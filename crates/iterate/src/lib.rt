@@ -24,12 +24,14 @@ fn read(moments: &[f64], needed: usize) -> Result<Five, Refusal>
     Ok(Five::from(five))
 }
 
+#[tactic(auto, using(crate::proofs::Refusals::steps_4, crate::proofs::Refusals::passed_on), unfolding(crate::specs::Refusals::iter4))]
 pub fn iter_4(moments: &[f64], mu_2: f64, p_1: f64) -> Result<Step, Refusal>
     ensures { result ≡ iter4 moments.now mu_2 p_1 }
 {
     Ok(step::four(read(moments, 4)?, mu_2, p_1))
 }
 
+#[tactic(auto, using(crate::proofs::Refusals::passed_on), unfolding(crate::specs::Refusals::iter5))]
 pub fn iter_5(moments: &[f64], mu_2: f64, p_1: f64) -> Result<Step, Refusal>
     ensures { result ≡ iter5 moments.now mu_2 p_1 }
 {

@@ -23,7 +23,7 @@ abbrev pub answer_of : Reading → Result ℕ SheetError
 answer_of (Ok l) = Ok (length l)
 answer_of (Err e) = Err e
 
--- last, 8: less room in the lists than spans
+-- refused last of all: less room in the lists than spans
 abbrev pub room_for : ℕ → Reading → Reading
 room_for room (Ok l) = cond (ltb room (length l)) (Err (Refused TooLittleRoom)) (Ok l)
 room_for room (Err e) = Err e

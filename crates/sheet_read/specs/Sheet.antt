@@ -35,6 +35,6 @@ abbrev pub limited : Lines → Reading
 limited (Ok l) = cond (ltb 1024 (length l)) (Err (Refused TooLarge)) (Ok l)
 limited (Err n) = Err (NotASpan n)
 
--- 11, over 65,536 bytes; 15, the first line that is not a span form; 11, over 1,024 lines
+-- refused: over 65,536 bytes; then the first line that is not a span form; then over 1,024 lines
 unfoldable pub sheet : List ℕ → Reading
 sheet s = cond (ltb 65536 (length s)) (Err (Refused TooLarge)) (limited (lines (length s) 1 s))

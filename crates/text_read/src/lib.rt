@@ -7,6 +7,7 @@ ghost use Rattle.text.specs.Decode.{hexes, instant, natural, nibble, numeral, up
 ghost use Rattle.text.specs.Meaning.{got_of, left_of};
 
 // The bytes of w.
+#[tactic(auto, using(text::proofs::Steps::word_strip))]
 pub fn read_word<'a>(s: &'a [u8], w: &[u8]) -> Option<&'a [u8]>
     ensures { word w.now s.now ≡ left_of result }
 {
