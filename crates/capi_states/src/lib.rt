@@ -28,43 +28,18 @@ pub fn state_of(
 ) -> M2N
     ensures { result ≡ state_of moments.now variant factor max_iter n_runs fit.now }
 {
-    let [
-        mu_1,
-        mu_2,
-        sigma_1,
-        sigma_2,
-        p_1,
-        error,
-        epsilon,
-        m_1,
-        m_2,
-        m_3,
-        m_4,
-        m_5,
-    ] = first::<12>(fit);
+    let numbers = first::<12>(fit);
     M2N {
         moments: first(moments),
         len: moments.len(),
-        epsilon,
+        epsilon: numbers[6],
         factor,
         n_runs,
         variant,
         max_iter,
-        new_moments: Five {
-            m_1,
-            m_2,
-            m_3,
-            m_4,
-            m_5,
-        },
-        parameters: Params {
-            mu_1,
-            mu_2,
-            sigma_1,
-            sigma_2,
-            p_1,
-        },
-        error,
+        new_moments: Five::from(first(&numbers[7..])),
+        parameters: Params::from(first(&numbers)),
+        error: numbers[5],
     }
 }
 
@@ -85,12 +60,10 @@ pub fn put_params(l: &mut [f64], p: Params)
 pub fn put_state(l: &mut [f64], m: M2N)
     ensures { l.new ≡ with_state l.old m }
 {
-    let [mu_1, mu_2, sigma_1, sigma_2, p_1] = <[f64; 5]>::from(m.parameters);
-    let [m_1, m_2, m_3, m_4, m_5] = <[f64; 5]>::from(m.new_moments);
-    put(
-        l,
-        &[
-            mu_1, mu_2, sigma_1, sigma_2, p_1, m.error, m.epsilon, m_1, m_2, m_3, m_4, m_5,
-        ],
-    );
+    let mut numbers = [0.0; 12];
+    numbers[..5].copy_from_slice(&<[f64; 5]>::from(m.parameters));
+    numbers[5] = m.error;
+    numbers[6] = m.epsilon;
+    numbers[7..].copy_from_slice(&<[f64; 5]>::from(m.new_moments));
+    put(l, &numbers);
 }
