@@ -4,7 +4,7 @@
 ghost use Rattle.std.specs.Prelude.{◌≡◌, ◌+◌, ◌<◌, ◌≤◌, ◌^◌, min, length};
 ghost use Rattle.moments.specs.Figures.{listed};
 ghost use Rattle.walk.specs.Walk.{walk_of};
-ghost use Rattle.grid_rows.specs.FitResultRow.{params_of, row_of, six};
+ghost use Rattle.grid_rows.specs.FitResultRow.{params_in, row_from, row_of, six, with_row_in};
 ghost use Rattle.grid_rows.specs.Rows.{Means, Variances, looked, mean_of, search_to};
 
 use moments::{Five, Params};
@@ -34,13 +34,22 @@ impl FitResultRow {
             error,
         }
     }
+
+    // Puts the row's six numbers in place i of flat rows. Where there is no such place nothing is put.
+    pub fn put_at(self, numbers: &mut [f64], i: usize)
+        ensures { numbers.new ≡ with_row_in numbers.old i self }
+    {
+        if i < numbers.len() / 6 {
+            numbers[6 * i..6 * i + 6].copy_from_slice(&<[f64; 6]>::from(self));
+        }
+    }
 }
 
 impl From<FitResultRow> for Params {
-    ghost from_gives = { λ row p. p ≡ params_of row };
+    ghost from_gives = { λ row p. p ≡ params_in row };
 
     fn from(row: FitResultRow) -> Params
-        ensures { result ≡ params_of row }
+        ensures { result ≡ params_in row }
     {
         Params {
             mu_1: row.mu_1,
@@ -69,7 +78,26 @@ impl From<FitResultRow> for [f64; 6] {
     }
 }
 
-// The state, the smallest error of a row so far, and the row that has it.
+impl From<[f64; 6]> for FitResultRow {
+    ghost from_gives = { λ numbers row. row ≡ row_from numbers };
+
+    fn from(numbers: [f64; 6]) -> FitResultRow
+        ensures { result ≡ row_from numbers }
+    {
+        let [mu_1, mu_2, sigma_1, sigma_2, p_1, error] = numbers;
+        let p = Params {
+            mu_1,
+            mu_2,
+            sigma_1,
+            sigma_2,
+            p_1,
+        };
+        FitResultRow::new(p, error)
+    }
+}
+
+// The state, the smallest error of a row so far, and the row that has it. It goes from row to row, where
+// what a whole search leaves has no use for the smallest error.
 #[derive(Clone, Copy)]
 pub struct Search {
     pub state: M2N,
