@@ -1,6 +1,6 @@
 use Rattle.std.proofs.Common.{◌≡◌, ℕ, ◌<◌, ◌≤◌, length, get_or}
 use lib.Ieee.{nan}
-use Rattle.moments.specs.Figures.{listed}
+use Rattle.moments.specs.Lists.{listed}
 use Rattle.step.specs.Steps.{sigma2_squared}
 use Rattle.grid_rows.proofs.variances.Given as goal
 
