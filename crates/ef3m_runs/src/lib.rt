@@ -3,34 +3,19 @@
 
 ghost use Rattle.std.specs.Prelude.{◌≡◌, ◌++◌, ◌+◌, ◌*◌, ◌≤◌, length, drop};
 ghost use Rattle.fit_runs.specs.Runs.{mp_fit, mp_rows, rows_at};
-ghost use Rattle.grid_rows.specs.FitResultRow.{row_at};
 
 use grid::FitResultRow;
 use refusal::Refusal;
 use walk::M2N;
-
-// Row i of flat numbers, six a row.
-fn row_at(flat: &[f64], i: usize) -> FitResultRow
-    requires { 6 * i + 6 ≤ length flat.now }
-    ensures { result ≡ row_at flat.now i }
-{
-    FitResultRow {
-        mu_1: flat[6 * i],
-        mu_2: flat[6 * i + 1],
-        sigma_1: flat[6 * i + 2],
-        sigma_2: flat[6 * i + 3],
-        p_1: flat[6 * i + 4],
-        error: flat[6 * i + 5],
-    }
-}
 
 // The first n rows come from flat numbers, and the others stay.
 fn fill(rows: &mut [FitResultRow], flat: &[f64], n: usize)
     requires { (n ≤ length rows.old) × (6 * n ≤ length flat.now) }
     ensures { rows.new ≡ rows_at flat.now n ++ drop n rows.old }
 {
+    let (sixes, _) = flat.as_chunks::<6>();
     for i in 0..n {
-        rows[i] = row_at(flat, i);
+        rows[i] = FitResultRow::from(sixes[i]);
     }
 }
 

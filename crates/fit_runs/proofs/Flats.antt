@@ -10,6 +10,7 @@ use lib.Ieee.{Float, nan}
 use Rattle.float.specs.Constants.{nought}
 use Rattle.std.proofs.Common.{Option, Some, None, Result, Ok, Err, drop}
 use Rattle.refusal.specs.declared.Refusal.{Refusal}
+use Rattle.grid_rows.proofs.Places.{row_put}
 use Rattle.grid_rows.specs.FitResultRow.{six, row_at}
 use Rattle.grid_rows.specs.declared.FitResultRow.{FitResultRow}
 use Rattle.fit_runs.specs.Runs.{rows_out, flat_of, flat_in64, put_in, rows_at}
@@ -44,7 +45,8 @@ unfolding flat_in64
 put_flat rows (Err e) h = rw append-nil
 put_flat rows (Ok None) h = rw append-nil
 put_flat rows (Ok (Some r)) h =
-    rw (six_less rows r h)
+    row_put (flat_in64 rows) (length rows) r (omega (arith, length_flat_64 rows (omega (arith, h)), h))
+    ∙ rw (six_less rows r h)
     (six_behind (flat_of rows) (replicate (384 - length (flat_of (rows ++ (r ∷ [])))) nought) nought nought nought nought nought nought (6 * length rows) r (sym (length_flat rows))
     ∙ rw (flat_snoc rows r))
 

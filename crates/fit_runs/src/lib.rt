@@ -8,7 +8,8 @@ use grid::FitResultRow;
 use refusal::Refusal;
 use walk::M2N;
 
-// The rows of several runs as flat numbers, six each, zeros behind them; and how many rows there are.
+// The rows of several runs as flat numbers, six each, zeros behind them; and how many rows there are. C
+// reads a row as six numbers. There is no heap, so it has the places of the most rows, 64, and goes by value.
 #[derive(Clone, Copy)]
 pub struct Flat {
     pub numbers: [f64; 384],
@@ -23,7 +24,7 @@ fn put(numbers: &mut [f64], count: usize, o: Result<Option<FitResultRow>, Refusa
     let Ok(Some(row)) = o else {
         return count;
     };
-    numbers[6 * count..6 * count + 6].copy_from_slice(&<[f64; 6]>::from(row));
+    row.put_at(numbers, count);
     count + 1
 }
 

@@ -7,12 +7,13 @@ use native.Mathlib.Numerals.{add-one}
 use native.Mathlib.Omega.{arith}
 use lib.Ieee.{Float, nan, binary64, add, mul, sub, neg, of_bits}
 use Rattle.moments.specs.Lists.{listed}
+use Rattle.moments.specs.Figures.{params}
 use Rattle.moments.specs.Mixture.{get_moments}
 use Rattle.moments.specs.declared.Five.{Five}
 use Rattle.moments.specs.declared.Params.{Params}
 use Rattle.walk.specs.Walk.{squares, error_of}
 use Rattle.walk.specs.declared.M2N.{M2N}
-use Rattle.grid_rows.specs.FitResultRow.{params_of, row_of}
+use Rattle.grid_rows.specs.FitResultRow.{params_in, row_of}
 use Rattle.grid_rows.specs.declared.FitResultRow.{FitResultRow}
 use Rattle.grid.specs.Rows.{sum_of_squares, squares_summed, moved, moved_error, moved_best}
 use Rattle.std.specs.List.{fold}
@@ -77,8 +78,12 @@ unfolding error_of
 error_is m n k h =
     first_squares (differences m.moments n) k (omega (arith, h, five_long m.moments n)) ∙ ap (sum_of_squares (differences m.moments n)) h ∙ squares_of m.moments n (min m.len 5) (at_most m.len)
 
+-- parameters that are all one number
+pub all_of : (p : Params) (x : Float) → (p.mu_1 ≡ x) × ((p.mu_2 ≡ x) × ((p.sigma_1 ≡ x) × ((p.sigma_2 ≡ x) × (p.p_1 ≡ x)))) → p ≡ params x x x x x
+all_of p x h = λ i. record { mu_1 = h.0 i; mu_2 = h.1.0 i; sigma_1 = h.1.1.0 i; sigma_2 = h.1.1.1.0 i; p_1 = h.1.1.1.1 i }
+
 -- ---- moved back to the mean
-pub moved_row : (m : M2N) (best : Option FitResultRow) (r x : FitResultRow) (p q : Params) (e : Float) → best ≡ Some r → p ≡ params_of r → q ≡ moved m p → e ≡ error_of m (get_moments q) → x ≡ row_of q e → Some x ≡ moved_best m best
+pub moved_row : (m : M2N) (best : Option FitResultRow) (r x : FitResultRow) (p q : Params) (e : Float) → best ≡ Some r → p ≡ params_in r → q ≡ moved m p → e ≡ error_of m (get_moments q) → x ≡ row_of q e → Some x ≡ moved_best m best
 unfolding moved_best moved_error
 moved_row m best r x p q e hb hp hq he hx =
     ap Some (hx ∙ ap (row_of q) he ∙ ap (λ y. row_of y (error_of m (get_moments y))) (hq ∙ ap (moved m) hp)) ∙ ap (moved_best m) (sym hb)

@@ -9,7 +9,7 @@ use Rattle.moments.specs.Orders.{centred_sum}
 use Rattle.moments.specs.declared.Params.{Params}
 use Rattle.walk.specs.Walk.{error_of}
 use Rattle.walk.specs.declared.M2N.{M2N}
-use Rattle.grid_rows.specs.FitResultRow.{params_of, row_of}
+use Rattle.grid_rows.specs.FitResultRow.{params_in, row_of}
 use Rattle.grid_rows.specs.declared.FitResultRow.{FitResultRow}
 
 -- the state with another tolerance, other parameters and their error
@@ -83,4 +83,4 @@ moved_state m epsilon p = cond (all_zero p) (begun m epsilon) (with_best m epsil
 unfoldable pub moved_best : M2N → Option FitResultRow → Option FitResultRow
 unfolding moved_error
 moved_best m None = None
-moved_best m (Some r) = Some (row_of (moved m (params_of r)) (moved_error m (params_of r)))
+moved_best m (Some r) = Some (row_of (moved m (params_in r)) (moved_error m (params_in r)))

@@ -23,13 +23,7 @@ pub(crate) fn begin(m: M2N, epsilon: f64) -> M2N
 {
     M2N {
         epsilon,
-        parameters: Params {
-            mu_1: 0.0,
-            mu_2: 0.0,
-            sigma_1: 0.0,
-            sigma_2: 0.0,
-            p_1: 0.0,
-        },
+        parameters: Params::default(),
         error: sum_of_squares(&m.moments[..m.len]),
         ..m
     }
@@ -89,10 +83,11 @@ fn moment_error(m: M2N, p: Params) -> f64
     sum_of_squares(&differences[..usize::min(m.len, 5)])
 }
 
+// Five kept zeros: nothing was kept.
 fn all_zero(p: Params) -> bool
     ensures { result ≡ all_zero p }
 {
-    p.mu_1 == 0.0 && p.mu_2 == 0.0 && p.sigma_1 == 0.0 && p.sigma_2 == 0.0 && p.p_1 == 0.0
+    p == Params::default()
 }
 
 // The state after a search about the mean that kept p.

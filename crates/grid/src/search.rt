@@ -5,7 +5,8 @@ ghost use Rattle.grid.specs.Search.{Served, centred_fit, deviation_of, fit_of, i
 use crate::{FitResultRow, rows};
 use walk::{M2N, Variant};
 
-// The state after a search, and its row.
+// What a search leaves, and its row. Nothing is refused here, so this is no `Fitted`: that has a Result,
+// which would never be an Err, and which `centred_fit_loop` would have to look into.
 #[derive(Clone, Copy)]
 pub(crate) struct Searched {
     pub(crate) state: M2N,
@@ -20,7 +21,8 @@ fn deviation(m: M2N) -> f64
 }
 
 // On the moments as given. State, epsilon and weights stay three parameters, here and below: a struct
-// that borrows the weights makes each clause longer.
+// that borrows the weights makes each clause longer, and weights that `fit` cuts to the rows of epsilon
+// ask for as many facts as `Served`: how many they are, that epsilon has so many rows, and the moments.
 #[tactic(auto, using(crate::proofs::Searching::plain_is))]
 fn plain_fit(m: M2N, epsilon: f64, weights: &[f64]) -> Searched
     requires { Served m epsilon weights.now }

@@ -1,5 +1,5 @@
 -- The rows of a search (the loop of the Rust's single_fit_loop). Definitions only.
-use Rattle.std.specs.Prelude.{List, cond, ◌≡◌, ℕ, zero, suc, ◌+◌, ◌<◌, pos, get_or, Float, Some, None}
+use Rattle.std.specs.Prelude.{List, cond, ◌≡◌, ℕ, zero, suc, ◌+◌, ◌<◌, pos, get_or, length, Float, Some, None}
 use Rattle.std.specs.Float.{nan, binary64}
 use Rattle.std.specs.Float.Ieee.{add, mul, of_int, lt}
 use Rattle.step.specs.Steps.{sigma2_squared}
@@ -24,10 +24,10 @@ search_to m deviation weights (suc i) =
     let s = search_to m deviation weights i in looked s (walk_of s.state (mean_of m deviation (suc i)) (get_or weights i nan)).state
 
 -- ---- what the parts promise each other
--- the starting means of the k rows after the first `from`
-abbrev pub Means : M2N → Float → ℕ → ℕ → List Float → Type 0
-Means m deviation from k u = (j : ℕ) → j < k → get_or u j nan ≡ mean_of m deviation (suc (from + j))
+-- the starting means of the 256 rows after the first `from`
+abbrev pub Means : M2N → Float → ℕ → List Float → Type 0
+Means m deviation from u = (j : ℕ) → j < 256 → get_or u j nan ≡ mean_of m deviation (suc (from + j))
 
--- σ₂² of the first step from each of the first k means, with the weights after the first `from`
-abbrev pub Variances : List Float → List Float → List Float → ℕ → ℕ → List Float → Type 0
-Variances ms u weights from k v = (j : ℕ) → j < k → get_or v j nan ≡ sigma2_squared ms (get_or u j nan) (get_or weights (from + j) nan)
+-- σ₂² of the first step from each of 256 means, as far as there are weights
+abbrev pub Variances : List Float → List Float → List Float → List Float → Type 0
+Variances ms u weights v = (j : ℕ) → j < 256 → j < length weights → get_or v j nan ≡ sigma2_squared ms (get_or u j nan) (get_or weights j nan)

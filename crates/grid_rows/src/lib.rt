@@ -1,10 +1,10 @@
 // The rows of a search, each a walk from its mean and its weight.
 #![tactic(auto)]
 
-ghost use Rattle.std.specs.Prelude.{◌≡◌, ◌+◌, ◌≤◌, min, length};
+ghost use Rattle.std.specs.Prelude.{◌≡◌, ◌+◌, ◌<◌, ◌≤◌, ◌^◌, min, length};
 ghost use Rattle.moments.specs.Lists.{listed};
 ghost use Rattle.walk.specs.Walk.{walk_of};
-ghost use Rattle.grid_rows.specs.FitResultRow.{params_of, row_of, six};
+ghost use Rattle.grid_rows.specs.FitResultRow.{params_in, row_from, row_of, six, with_row_in};
 ghost use Rattle.grid_rows.specs.Rows.{Means, Variances, looked, mean_of, search_to};
 
 use moments::{Five, Params};
@@ -34,13 +34,22 @@ impl FitResultRow {
             error,
         }
     }
+
+    // Puts the row's six numbers in place i of flat rows. Where there is no such place nothing is put.
+    pub fn put_at(self, numbers: &mut [f64], i: usize)
+        ensures { numbers.new ≡ with_row_in numbers.old i self }
+    {
+        if i < numbers.len() / 6 {
+            numbers[6 * i..6 * i + 6].copy_from_slice(&<[f64; 6]>::from(self));
+        }
+    }
 }
 
 impl From<FitResultRow> for Params {
-    ghost from_gives = { λ row p. p ≡ params_of row };
+    ghost from_gives = { λ row p. p ≡ params_in row };
 
     fn from(row: FitResultRow) -> Params
-        ensures { result ≡ params_of row }
+        ensures { result ≡ params_in row }
     {
         Params {
             mu_1: row.mu_1,
@@ -69,7 +78,26 @@ impl From<FitResultRow> for [f64; 6] {
     }
 }
 
-// The state, the smallest error of a row so far, and the row that has it.
+impl From<[f64; 6]> for FitResultRow {
+    ghost from_gives = { λ numbers row. row ≡ row_from numbers };
+
+    fn from(numbers: [f64; 6]) -> FitResultRow
+        ensures { result ≡ row_from numbers }
+    {
+        let [mu_1, mu_2, sigma_1, sigma_2, p_1, error] = numbers;
+        let p = Params {
+            mu_1,
+            mu_2,
+            sigma_1,
+            sigma_2,
+            p_1,
+        };
+        FitResultRow::new(p, error)
+    }
+}
+
+// The state, the smallest error of a row so far, and the row that has it. It goes from row to row, where
+// what a whole search leaves has no use for the smallest error.
 #[derive(Clone, Copy)]
 pub struct Search {
     pub state: M2N,
@@ -80,7 +108,7 @@ pub struct Search {
 // The starting mean of row i.
 #[tactic(auto, unfolding(crate::specs::Rows::mean_of))]
 fn mean_of(m: M2N, deviation: f64, i: usize) -> f64
-    requires { i ≤ 131072 }
+    requires { i < 2 ^ 18 }
     ensures { result ≡ mean_of m deviation i }
 {
     i as f64 * m.epsilon * m.factor * deviation + m.moments[0]
@@ -101,27 +129,26 @@ fn look(s: Search, m: M2N) -> Search
     }
 }
 
-// The starting means of the k rows after the first `from`.
-fn means(m: M2N, deviation: f64, from: usize, k: usize) -> [f64; 256]
-    requires { (k ≤ 256) × (from + k ≤ 131072) }
-    ensures { Means m deviation from k result }
+// The starting means of the 256 rows after the first `from`.
+fn means(m: M2N, deviation: f64, from: usize) -> [f64; 256]
+    requires { from ≤ 131072 }
+    ensures { Means m deviation from result }
 {
     let mut u = [0.0f64; 256];
-    for j in 0..k {
+    for j in 0..256 {
         u[j] = mean_of(m, deviation, from + j + 1);
     }
     u
 }
 
-// The sigma_2^2 of the first step from each of these means, with the weights after the first `from`.
+// The sigma_2^2 of the first step from each of these means, with a weight each, as far as there are weights.
 // Nothing branches here, and the means are there already, so that the processor has many rows in hand.
-fn variances(a: Five, u: [f64; 256], weights: &[f64], from: usize, k: usize) -> [f64; 256]
-    requires { (k ≤ 256) × (from + k ≤ length weights.now) }
-    ensures { Variances (listed a) u weights.now from k result }
+fn variances(a: Five, means: [f64; 256], weights: &[f64]) -> [f64; 256]
+    ensures { Variances (listed a) means weights.now result }
 {
-    let mut v = u;
-    for j in 0..k {
-        v[j] = step::sigma_2_squared(a, v[j], weights[from + j]);
+    let mut v = means;
+    for j in 0..usize::min(weights.len(), 256) {
+        v[j] = step::sigma_2_squared(a, v[j], weights[j]);
     }
     v
 }
@@ -133,20 +160,21 @@ fn walk_row(s: Search, mu_2: f64, p_1: f64) -> Search
     look(s, walk::iterate_from(s.state, mu_2, p_1).state)
 }
 
-// k rows more, after the first `from`. Where sigma_2^2 is below zero the walk ends at its first step
-// and leaves all as it was: so end most rows, and they are passed over.
-fn walk_block(s: Search, m: M2N, deviation: f64, weights: &[f64], from: usize, k: usize) -> Search
-    requires { (s ≡ search_to m deviation weights.now from) × (k ≤ 256) × (from + k ≤ 131072) × (from + k ≤ length weights.now) }
-    ensures { result ≡ search_to m deviation weights.now (from + k) }
+// The rows after the first `from`, 256 or what there are. Where sigma_2^2 is below zero the walk ends at
+// its first step and leaves all as it was: so end most rows, and they are passed over.
+fn walk_block(s: Search, m: M2N, deviation: f64, weights: &[f64], from: usize) -> Search
+    requires { (s ≡ search_to m deviation weights.now from) × (from ≤ length weights.now) × (from ≤ 131072) }
+    ensures { result ≡ search_to m deviation weights.now (min (from + 256) (length weights.now)) }
 {
-    let u = means(m, deviation, from, k);
-    let v = variances(walk::first_five(m), u, weights, from, k);
+    let block = &weights[from..];
+    let means = means(m, deviation, from);
+    let variances = variances(walk::first_five(m), means, block);
     let mut t = s;
-    for j in 0..k {
-        if v[j] < 0.0 {
+    for ((mean, variance), weight) in means.iter().zip(&variances).zip(block) {
+        if *variance < 0.0 {
             continue;
         }
-        t = walk_row(t, u[j], weights[from + j]);
+        t = walk_row(t, *mean, *weight);
     }
     t
 }
@@ -157,14 +185,14 @@ fn walk_block(s: Search, m: M2N, deviation: f64, weights: &[f64], from: usize, k
 pub fn walk_rows(m: M2N, deviation: f64, weights: &[f64]) -> Search
     ensures { result ≡ search_to m deviation weights.now (min (length weights.now) 131072) }
 {
-    let n = usize::min(weights.len(), 131072);
+    let weights = &weights[..usize::min(weights.len(), 131072)];
     let mut s = Search {
         state: m,
         err_min: m.error,
         best: None,
     };
-    for from in (0..n).step_by(256) {
-        s = walk_block(s, m, deviation, weights, from, usize::min(n - from, 256));
+    for from in (0..weights.len()).step_by(256) {
+        s = walk_block(s, m, deviation, weights, from);
     }
     s
 }

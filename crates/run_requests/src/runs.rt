@@ -3,7 +3,6 @@
 ghost use Rattle.std.specs.Prelude.{◌+◌, ◌*◌, ◌≤◌, ◌≡◌, length};
 ghost use Rattle.protocol.specs.Words.{only};
 ghost use Rattle.replies.specs.Requests.{only_or};
-ghost use Rattle.grid_rows.specs.FitResultRow.{with_row_at};
 ghost use Rattle.run_requests.specs.Runs.{asked, asked_of, rows_in, runs, runs_in, runs_reply, with_rows, words};
 
 use grid::FitResultRow;
@@ -74,15 +73,7 @@ fn put_rows(xs: &mut [f64], rows: &[FitResultRow])
     requires { 6 * length rows.now ≤ length xs.old }
     ensures { xs.new ≡ with_rows rows.now xs.old }
 {
-    for i in 0..rows.len() {
-        put_row(xs, i, rows[i]);
+    for (i, row) in rows.iter().enumerate() {
+        row.put_at(xs, i);
     }
-}
-
-// Row i, its six numbers.
-fn put_row(xs: &mut [f64], i: usize, row: FitResultRow)
-    requires { 6 * i + 6 ≤ length xs.old }
-    ensures { xs.new ≡ with_row_at xs.old i row }
-{
-    xs[6 * i..6 * i + 6].copy_from_slice(&<[f64; 6]>::from(row));
 }

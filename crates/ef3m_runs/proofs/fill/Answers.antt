@@ -1,5 +1,6 @@
-use Rattle.std.proofs.Common.{set, arith, ap, ◌∙◌}
-use Rattle.ef3m_runs.proofs.Lists.{starts, next_cur}
+use Rattle.std.proofs.Common.{[], arith, ap, get_or, set, ◌∙◌}
+use Rattle.ef3m_runs.proofs.Lists.{next_cur, six_at, starts}
+use Rattle.grid_rows.specs.FitResultRow.{row_from}
 use Rattle.ef3m_runs.proofs.fill.Goals as goal
 
 pub loop-i-init : goal.loop-i-init
@@ -8,4 +9,5 @@ loop-i-init c = starts c.args.flat.now c.args.rows.now
 pub loop-i-preserved : goal.loop-i-preserved
 loop-i-preserved c =
     let l = c.loop-i in
-    ap (λ xs. set xs l.i c.row_at.result) l.invariant ∙ next_cur _ c.args.rows.now l.i c.row_at.result (omega arith) c.row_at.ensures
+    let row = c.from.ensures ∙ ap (λ xs. row_from (get_or xs l.i [])) c.as_chunks.ensures.front ∙ six_at c.args.flat.now _ l.i [] (omega arith) in
+    ap (λ xs. set xs l.i c.from.result) l.invariant ∙ next_cur _ c.args.rows.now l.i c.from.result (omega arith) row

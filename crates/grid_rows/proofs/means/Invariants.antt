@@ -1,7 +1,7 @@
-use mathlib.Core.Path.{◌≡◌}
-use lib.ListN.{length}
-use Rattle.grid_rows.specs.Rows.{Means}
+use Rattle.std.proofs.Common.{◌≡◌, ℕ, ◌+◌, ◌<◌, suc, length, get_or}
+use lib.Ieee.{nan}
+use Rattle.grid_rows.specs.Rows.{mean_of}
 use Rattle.grid_rows.proofs.means.Given as goal
 
 abbrev pub invariant-loop-j : goal.invariant-loop-j
-invariant-loop-j l = (length l.u ≡ 256) × Means l.m l.deviation l.from l.j l.u
+invariant-loop-j l = (length l.u ≡ 256) × ((i : ℕ) → i < l.j → get_or l.u i nan ≡ mean_of l.m l.deviation (suc (l.from + i)))

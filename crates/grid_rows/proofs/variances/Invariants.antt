@@ -1,10 +1,10 @@
-use mathlib.Core.Path.{◌≡◌}
-use Prim.Native.Nat.{ℕ, ◌≤◌}
+use Rattle.std.proofs.Common.{◌≡◌, ℕ, ◌<◌, ◌≤◌, length, get_or}
 use lib.Ieee.{nan}
-use lib.ListN.{get_or, length}
 use Rattle.moments.specs.Lists.{listed}
-use Rattle.grid_rows.specs.Rows.{Variances}
+use Rattle.step.specs.Steps.{sigma2_squared}
 use Rattle.grid_rows.proofs.variances.Given as goal
 
 abbrev pub invariant-loop-j : goal.invariant-loop-j
-invariant-loop-j l = (length l.v ≡ 256) × Variances (listed l.a) l.initial.v l.weights l.from l.j l.v × ((i : ℕ) → l.j ≤ i → get_or l.v i nan ≡ get_or l.initial.v i nan)
+invariant-loop-j l =
+    let u = l.initial.v in
+    (length l.v ≡ 256) × ((i : ℕ) → i < l.j → get_or l.v i nan ≡ sigma2_squared (listed l.a) (get_or u i nan) (get_or l.weights i nan)) × ((i : ℕ) → l.j ≤ i → get_or l.v i nan ≡ get_or u i nan)

@@ -1,19 +1,25 @@
--- `grid_rows::walk_block` meets its contract: after j turns, the search after j rows more, passed over or walked. Assumes nothing.
-use mathlib.Core.Path.{ap, ◌∙◌}
-use Prim.Native.Nat.{◌<◌}
-use native.Mathlib.Omega.{arith}
+-- `grid_rows::walk_block` meets its contract: after i turns, the search after i rows more, passed over or walked. Assumes nothing.
+use Rattle.std.proofs.Common.{rules, arith, add-one, length, ◌≡◌, ◌∙◌}
 use lib.Ieee.{of_bits}
-use Rattle.grid_rows.specs.Rows.{search_to}
-use Rattle.grid_rows.proofs.Blocks.{plus_one, row_passed, row_more}
+use Rattle.std.proofs.lemmas.List.{length_push}
+use Rattle.grid_rows.proofs.Blocks.{taken, row_passed, row_more}
 use Rattle.grid_rows.proofs.walk_block.Goals as goal
 
-pub loop-j-preserved-then-v-j : goal.loop-j-preserved-then-v-j
+pub loop-mean-preserved-then-variance : goal.loop-mean-preserved-then-variance
 unfolding of_bits
-loop-j-preserved-then-v-j c =
-    let h : c.loop-j.j < c.args.k = omega arith in
-    row_passed _ _ _ _ _ _ _ _ c.loop-j.invariant c.first_five.ensures (c.means-u.ensures c.loop-j.j h) (c.variances-v.ensures c.loop-j.j h) c.if-v-j.true ∙ ap (search_to _ _ _) (plus_one _ _)
+loop-mean-preserved-then-variance c =
+    let l = c.loop-mean in
+    let long : length c.means-means.result ≡ 256 = search rules in
+    let step = c.in-Some.ensures.steps in
+    let (mean, weight, variance, means, variances, weights) = taken _ _ _ _ (length l.yielded) _ _ _ long c.means-means.ensures c.variances-variances.ensures l.invariant.1 l.invariant.2 l.invariant.3 step.0.0 step.0.1 step.1 (cc) (cc) (cc) in
+    rw (length_push l.yielded ((c.in-Some.mean, c.in-Some.variance), c.in-Some.weight) ∙ add-one _)
+    (row_passed _ _ _ _ _ _ _ _ _ _ (omega arith) l.invariant.0 c.first_five.ensures mean weight variance c.if-variance.true, means, variances, weights)
 
-pub loop-j-preserved : goal.loop-j-preserved
-loop-j-preserved c =
-    let h : c.loop-j.j < c.args.k = omega arith in
-    row_more _ _ _ _ _ _ _ c.loop-j.invariant (c.means-u.ensures c.loop-j.j h) c.walk_row-t.ensures ∙ ap (search_to _ _ _) (plus_one _ _)
+pub loop-mean-preserved : goal.loop-mean-preserved
+loop-mean-preserved c =
+    let l = c.loop-mean in
+    let long : length c.means-means.result ≡ 256 = search rules in
+    let step = c.in-Some.ensures.steps in
+    let (mean, weight, variance, means, variances, weights) = taken _ _ _ _ (length l.yielded) _ _ _ long c.means-means.ensures c.variances-variances.ensures l.invariant.1 l.invariant.2 l.invariant.3 step.0.0 step.0.1 step.1 (cc) (cc) (cc) in
+    rw (length_push l.yielded ((c.in-Some.mean, c.in-Some.variance), c.in-Some.weight) ∙ add-one _)
+    (row_more _ _ _ _ _ _ _ _ _ (omega arith) l.invariant.0 mean weight c.walk_row-t.ensures, means, variances, weights)

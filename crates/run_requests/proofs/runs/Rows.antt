@@ -5,9 +5,10 @@ use mathlib.Core.List.{List, [], ◌∷◌, ◌++◌}
 use native.Mathlib.Numerals.{add-one}
 use native.Mathlib.Omega.{arith}
 use lib.Ieee.{Float}
-use lib.ListN.{drop, get_or, length, length-append, take}
+use lib.ListN.{drop, get_or, length, length-append, length-drop, take}
 use lib.Seq.{drop-append-add, drop-drop, length-take-le, take-append_seam}
-use Rattle.grid_rows.specs.FitResultRow.{six, with_row_at}
+use Rattle.grid_rows.proofs.Places.{row_within}
+use Rattle.grid_rows.specs.FitResultRow.{six, with_row_in}
 use Rattle.grid_rows.specs.declared.FitResultRow.{FitResultRow}
 use Rattle.fit_runs.specs.Runs.{flat_of}
 use Rattle.fit_runs.proofs.Flats.{length_flat}
@@ -29,10 +30,11 @@ six_put p xs at r h =
     rw (h, take-append_seam p q, drop-append-add p q 6, drop-drop 6 (length p) xs, length-append p (six r))
 
 module _ (rows : List FitResultRow) (xs : List Float) (i : ℕ) where
-  pub row_put : (none : FitResultRow) → i < length rows → with_row_at (with_rows (take i rows) xs) i (get_or rows i none) ≡ with_rows (take (i + 1) rows) xs
-  row_put none h =
+  pub next_put : (none : FitResultRow) → i < length rows → 6 * length rows ≤ length xs → with_row_in (with_rows (take i rows) xs) i (get_or rows i none) ≡ with_rows (take (i + 1) rows) xs
+  next_put none h l =
       let long : length (flat_of (take i rows)) ≡ 6 * i = flat_long rows i (omega arith) in
-      rw (add-one i, flat_next rows i none h) (six_put (flat_of (take i rows)) xs (6 * i) (get_or rows i none) (sym long))
+      let room : 6 * i + 6 ≤ length (with_rows (take i rows) xs) = omega (arith, h, l, long, length-append (flat_of (take i rows)) (drop (length (flat_of (take i rows))) xs), length-drop (length (flat_of (take i rows))) xs) in
+      rw (row_within (with_rows (take i rows) xs) i (get_or rows i none) room, add-one i, flat_next rows i none h) (six_put (flat_of (take i rows)) xs (6 * i) (get_or rows i none) (sym long))
 
 pub none_put : (rows : List FitResultRow) (xs : List Float) → xs ≡ with_rows (take 0 rows) xs
 unfolding flat_of
