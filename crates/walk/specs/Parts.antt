@@ -1,7 +1,7 @@
 -- What the parts of the walk promise each other: the fit part of the state by itself. Definitions only.
 use Rattle.std.specs.Prelude.{Bool, true, false, not, ◌||◌, cond, eqb, ◌≡◌, ℕ, ◌+◌, ◌*◌, ◌-◌, ◌≤◌, min, Float, Result, Ok, Err}
 use Rattle.std.specs.Float.Ieee.{lt}
-use Rattle.moments.specs.Figures.{listed}
+use Rattle.moments.specs.Lists.{listed}
 use Rattle.moments.specs.Mixture.{get_moments}
 use Rattle.moments.specs.declared.Five.{Five}
 use Rattle.moments.specs.declared.Params.{Params}
@@ -15,6 +15,10 @@ use Rattle.walk.specs.declared.Reason.{Reason}
 use Rattle.walk.specs.declared.Reason.TheVariants.{Spent}
 use Rattle.walk.specs.declared.Seen.{Seen}
 use Rattle.walk.specs.declared.Turn.{Turn}
+
+-- the fit part of a state
+abbrev pub fit_part : M2N → Fit
+fit_part m = record { new_moments = m.new_moments; parameters = m.parameters; error = m.error }
 
 abbrev pub chosen : Bool → Fit → Params → Five → Float → Fit
 chosen true f r n e = record { new_moments = n; parameters = r; error = e }
