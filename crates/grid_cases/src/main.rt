@@ -50,10 +50,10 @@ fn tell(rt: &impl Print, name: &str, o: Result<Option<FitResultRow>, Refusal>) -
 }
 
 fn main(rt: HostRuntime) -> io::Result<()> {
-    let weights = [0.5; 131072];
+    let all = [0.5; 131072];
     for (name, variant, epsilon, n) in CASES {
-        let m = on_m(variant, epsilon);
-        let fitted = grid::single_fit_loop(m, None, &weights[..n.min(weights.len())]);
+        let weights = all.get(..n).unwrap_or(&[]);
+        let fitted = grid::single_fit_loop(on_m(variant, epsilon), None, weights);
         tell(&rt, name, fitted.outcome)?;
     }
     Ok(())
