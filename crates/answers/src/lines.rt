@@ -1,5 +1,6 @@
 // Lines out of a stream of bytes that comes in chunks, each answered when its newline comes.
 use std::io;
+use text_write::Text;
 
 // A line has 65,536 bytes at most, its newline counted.
 const LINE: usize = 65535;
@@ -49,7 +50,9 @@ impl Lines {
     // A last line with no newline is no request.
     pub(crate) fn end(&mut self, rt: &impl Print) -> io::Result<()> {
         if self.len != Some(0) {
-            self.at = printing::put_bad(&mut self.out, self.at);
+            let mut text = Text::from(&mut self.out, self.at);
+            printing::put_bad(&mut text);
+            self.at = text.end();
         }
         self.flush(rt)
     }
@@ -67,18 +70,21 @@ impl Lines {
         if self.at > ROOM {
             self.flush(rt)?;
         }
-        self.at = self.put_answer();
+        self.put_answer();
         self.len = Some(0);
         Ok(())
     }
 
-    // Puts the answer to the line, and answers the place after it.
-    fn put_answer(&mut self) -> usize {
-        let Some(line) = self.len.and_then(|n| self.line.get(..n)) else {
-            return printing::put_bad(&mut self.out, self.at);
-        };
-        let r = requests::answer(line, &mut self.list);
-        printing::put(&mut self.out, self.at, r, line, &self.list)
+    // Puts the answer to the line.
+    fn put_answer(&mut self) {
+        let mut text = Text::from(&mut self.out, self.at);
+        if let Some(line) = self.len.and_then(|n| self.line.get(..n)) {
+            let r = requests::answer(line, &mut self.list);
+            printing::put(&mut text, r, line, &self.list);
+        } else {
+            printing::put_bad(&mut text);
+        }
+        self.at = text.end();
     }
 
     // Writes the answers that wait.

@@ -12,6 +12,8 @@ use Rattle.protocol_lists.specs.Lists.{fraction_list, instant_list}
 use Rattle.replies.specs.Requests.{◌>>=◌, after, named, only_or, or_refused, reply}
 use Rattle.replies.specs.declared.forms.Reply.{Reply}
 use Rattle.replies.specs.declared.forms.Reply.TheVariants.{Spanned}
+use Rattle.replies.specs.declared.forms.Columns.{Columns}
+use Rattle.replies.specs.declared.forms.Columns.TheVariants.{One, Two}
 use Rattle.replies.specs.declared.forms.SpanRows.{SpanRows}
 use Rattle.bet_requests.specs.declared.spans.Asked as asked_slices
 use Rattle.bet_requests.specs.declared.spans.Kind.{Kind}
@@ -52,7 +54,7 @@ abbrev pub refusal : Asked → ℕ → Checked
 refusal a places = spans_refusal (length a.starts) (length a.ends) (length a.sides) (min a.room places)
 
 -- what comes of a check: a row for each span, where nothing is refused
-abbrev pub rows : ℕ → Asked → Checked → Result SpanRows Refusal
+abbrev pub rows : Columns → Asked → Checked → Result SpanRows Refusal
 rows columns a checked = unless_refused checked (record { count = length a.starts; columns = columns; starts = a.from })
 
 -- a list after the answer: new fractions in front, or as it was where the answer is a refusal
@@ -64,7 +66,7 @@ abbrev pub sides_refusal : ℕ → Asked → Checked
 sides_refusal n a = refusal a (n / 2)
 
 abbrev pub sides_rows : ℕ → Asked → Result SpanRows Refusal
-sides_rows n a = rows 2 a (sides_refusal n a)
+sides_rows n a = rows Two a (sides_refusal n a)
 
 abbrev pub sides_reply : ℕ → Asked → Reply
 sides_reply n a = or_refused Spanned (sides_rows n a)
@@ -76,7 +78,7 @@ sides_in xs a =
 
 -- the sizes are one column
 abbrev pub sizes_rows : ℕ → Asked → Result SpanRows Refusal
-sizes_rows n a = rows 1 a (refusal a n)
+sizes_rows n a = rows One a (refusal a n)
 
 abbrev pub sizes_reply : ℕ → Asked → Reply
 sizes_reply n a = or_refused Spanned (sizes_rows n a)

@@ -7,7 +7,7 @@ ghost use Rattle.protocol.specs.Words.{only};
 ghost use Rattle.replies.specs.Requests.{only_or};
 
 use refusal::Refusal;
-use replies::{Reply, SpanRows};
+use replies::{Columns, Reply, SpanRows};
 
 // The fractions of an answer are left in xs.
 pub fn answer(s: &[u8], xs: &mut [f64]) -> Option<Reply>
@@ -88,7 +88,7 @@ fn concurrent_sides(a: Asked<'_>, xs: &mut [f64]) -> Result<SpanRows, Refusal>
     xs[half..half + count].copy_from_slice(&short[..count]);
     Ok(SpanRows {
         count,
-        columns: 2,
+        columns: Columns::Two,
         starts: a.from,
     })
 }
@@ -101,7 +101,7 @@ fn bet_size_budget(a: Asked<'_>, xs: &mut [f64]) -> Result<SpanRows, Refusal>
     let count = budget::bet_size_budget(a.starts, a.ends, a.sides, &mut xs[..places])?;
     Ok(SpanRows {
         count,
-        columns: 1,
+        columns: Columns::One,
         starts: a.from,
     })
 }

@@ -59,5 +59,5 @@ fn raw_moment(words: &[u8], xs: &mut [f64]) -> Option<Reply>
     let n = protocol::only(protocol_lists::read_next_list(words, &mut c))?;
     let places = (room as usize).min(xs.len());
     let written = moments::raw_moment(&c[..n.min(c.len())], mean, &mut xs[..places]);
-    Some(written.map_or_else(Reply::Refused, |count| Reply::Listed(count, count)))
+    Some(written.map_or_else(Reply::Refused, |count| Reply::Listed { count, len: count }))
 }

@@ -9,6 +9,7 @@ use Rattle.text.specs.Decode.{instant, natural, nibble, numeral, word}
 use Rattle.text.specs.Print.{decimal, hex, shown, width}
 use Rattle.refusal.specs.declared.Refusal.TheVariants.{TooFewWeights}
 use Rattle.protocol_lists.specs.Lists.{values_of}
+use Rattle.replies.specs.declared.forms.Columns.TheVariants.{One, Two}
 use Rattle.replies.specs.declared.forms.Reply as reply
 use Rattle.printing_values.specs.Rows.{rows_from}
 use Rattle.printing_values.specs.Texts.{fractions}
@@ -31,8 +32,8 @@ replies =
     ∷ (Some reply.TheVariants.Inadmissible ⇒ bytes "inadmissible\n")
     ∷ (Some (reply.TheVariants.Instant (negsuc 4)) ⇒ bytes "ok -5\n")
     ∷ (Some (reply.TheVariants.Listed 1 2) ⇒ bytes "ok 1 3ff0000000000000 3ff0000000000000\n")
-    ∷ (Some (reply.TheVariants.Spanned (record { count = 2; columns = 1; starts = 8 })) ⇒ bytes "ok 2 0 3ff0000000000000 5 3ff0000000000000\n")
-    ∷ (Some (reply.TheVariants.Spanned (record { count = 2; columns = 2; starts = 8 })) ⇒ bytes "ok 2 0 3ff0000000000000 bff0000000000000 5 3ff0000000000000 bff0000000000000\n")
+    ∷ (Some (reply.TheVariants.Spanned (record { count = 2; columns = One; starts = 8 })) ⇒ bytes "ok 2 0 3ff0000000000000 5 3ff0000000000000\n")
+    ∷ (Some (reply.TheVariants.Spanned (record { count = 2; columns = Two; starts = 8 })) ⇒ bytes "ok 2 0 3ff0000000000000 bff0000000000000 5 3ff0000000000000 bff0000000000000\n")
     ∷ []
 
 known_replies : answers printed replies ≡ expected replies

@@ -15,7 +15,7 @@ head (reply.TheVariants.Parameters p) = bytes "ok"
 head reply.TheVariants.Inadmissible = bytes "inadmissible"
 head (reply.TheVariants.Walked w) = bytes "ok"
 head (reply.TheVariants.Searched f) = bytes "ok"
-head (reply.TheVariants.Listed count n) = bytes "ok"
+head (reply.TheVariants.Listed count len) = bytes "ok"
 head (reply.TheVariants.Spanned r) = bytes "ok"
 
 -- a reply to the line s, beside which stands the list xs: its word, its values and a newline; or what says that the line is no request

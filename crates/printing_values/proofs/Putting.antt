@@ -11,17 +11,21 @@ use lib.ListN.{drop, length, length-append, length-drop, take, take-append-drop}
 use lib.Seq.{length-take-le}
 use Rattle.text.specs.Print.{Placed, placed, place_after}
 use Rattle.text.proofs.Placing.{placed_next, placed_then}
+use Rattle.text_write.specs.Appending.{Appended}
+use Rattle.text_write.specs.declared.Text.{Text}
 use Rattle.printing_values.specs.Texts.{Puts, after_all, all_placed}
 
 -- ---- none, one, and some after others
-pub puts_none : {o : List ℕ} {at : ℕ} → Puts o o at at []
-puts_none = record { is = refl; next = refl }
+pub puts_none : {t : Text} → Puts t t []
+puts_none = record { same = refl; is = refl; next = refl }
 
-module _ {o o₁ o₂ : List ℕ} {at k r : ℕ} where
-  pub puts_first : {t : List ℕ} {us : List (List ℕ)} → Placed o o₁ at k t → Puts o₁ o₂ k r us → Puts o o₂ at r (t ∷ us)
-  puts_first p q = record { is = rw (← p.is, ← p.next) q.is; next = rw (← p.is, ← p.next) q.next }
+module _ {t t₁ t₂ : Text} where
+  pub puts_first : {w : List ℕ} {us : List (List ℕ)} → Appended t t₁ w → Puts t₁ t₂ us → Puts t t₂ (w ∷ us)
+  puts_first a q =
+      let p = a.placed in
+      record { same = q.same ∙ a.same; is = rw (← p.is, ← p.next) q.is; next = rw (← p.is, ← p.next) q.next }
 
-pub puts_one : {o o' : List ℕ} {at r : ℕ} {t : List ℕ} → Placed o o' at r t → Puts o o' at r (t ∷ [])
+pub puts_one : {t t' : Text} {w : List ℕ} → Appended t t' w → Puts t t' (w ∷ [])
 puts_one p = puts_first p puts_none
 
 then_is : (o : List ℕ) (at : ℕ) (ts us : List (List ℕ)) → all_placed o at (ts ++ us) ≡ all_placed (all_placed o at ts) (after_all o at ts) us
@@ -32,10 +36,11 @@ then_next : (o : List ℕ) (at : ℕ) (ts us : List (List ℕ)) → after_all o 
 then_next o at [] us = refl
 then_next o at (t ∷ ts) us = then_next (placed o at t) (place_after o at t) ts us
 
-pub puts_then : {o o₁ o₂ : List ℕ} {at k r : ℕ} {ts us : List (List ℕ)} → Puts o o₁ at k ts → Puts o₁ o₂ k r us → Puts o o₂ at r (ts ++ us)
-puts_then {o} {at = at} {ts = ts} {us = us} p q = record {
-  is = rw (then_is o at ts us, ← p.is, ← p.next) q.is;
-  next = rw (then_next o at ts us, ← p.is, ← p.next) q.next;
+pub puts_then : {t t₁ t₂ : Text} {ts us : List (List ℕ)} → Puts t t₁ ts → Puts t₁ t₂ us → Puts t t₂ (ts ++ us)
+puts_then {t = t} {ts = ts} {us = us} p q = record {
+  same = q.same ∙ p.same;
+  is = rw (then_is t.out.now t.end ts us, ← p.is, ← p.next) q.is;
+  next = rw (then_next t.out.now t.end ts us, ← p.is, ← p.next) q.next;
 }
 
 -- ---- a buffer stays as long as it was
@@ -54,21 +59,23 @@ all_long : (o : List ℕ) (at : ℕ) (ts : List (List ℕ)) → length (all_plac
 all_long o at [] = refl
 all_long o at (t ∷ ts) = all_long (placed o at t) (place_after o at t) ts ∙ placed_long o at t
 
--- ---- what is left: us are still to be put into o₁ from k on, so that ts will have been put into o from `at` on
-pub record Left (o : List ℕ) (at : ℕ) (ts : List (List ℕ)) (o₁ : List ℕ) (k : ℕ) (us : List (List ℕ)) : Type 0 where
-  pub same : length o₁ ≡ length o
-  pub is : all_placed o at ts ≡ all_placed o₁ k us
-  pub next : after_all o at ts ≡ after_all o₁ k us
+-- ---- what is left: us are still to be put into u, so that ts will have been put into t
+pub record Left (t : Text) (ts : List (List ℕ)) (u : Text) (us : List (List ℕ)) : Type 0 where
+  pub same : u.out.ghost_name ≡ t.out.ghost_name
+  pub long : length u.out.now ≡ length t.out.now
+  pub is : all_placed t.out.now t.end ts ≡ all_placed u.out.now u.end us
+  pub next : after_all t.out.now t.end ts ≡ after_all u.out.now u.end us
 
-pub left_some : {o o₁ o₂ : List ℕ} {at k r : ℕ} {ts us vs : List (List ℕ)} → Left o at ts o₁ k (us ++ vs) → Puts o₁ o₂ k r us → Left o at ts o₂ r vs
-left_some {o₁ = o₁} {k = k} {us = us} {vs = vs} l p = record {
-  same = ap length p.is ∙ all_long o₁ k us ∙ l.same;
-  is = l.is ∙ then_is o₁ k us vs ∙ rw (← p.is, ← p.next);
-  next = l.next ∙ then_next o₁ k us vs ∙ rw (← p.is, ← p.next);
+pub left_some : {t u v : Text} {ts us vs : List (List ℕ)} → Left t ts u (us ++ vs) → Puts u v us → Left t ts v vs
+left_some {u = u} {us = us} {vs = vs} l p = record {
+  same = p.same ∙ l.same;
+  long = ap length p.is ∙ all_long u.out.now u.end us ∙ l.long;
+  is = l.is ∙ then_is u.out.now u.end us vs ∙ rw (← p.is, ← p.next);
+  next = l.next ∙ then_next u.out.now u.end us vs ∙ rw (← p.is, ← p.next);
 }
 
-pub left_none : {o o₁ : List ℕ} {at k : ℕ} {ts : List (List ℕ)} → Left o at ts o₁ k [] → Puts o o₁ at k ts
-left_none l = record { is = sym l.is; next = sym l.next }
+pub left_none : {t u : Text} {ts : List (List ℕ)} → Left t ts u [] → Puts t u ts
+left_none l = record { same = l.same; is = sym l.is; next = sym l.next }
 
 -- ---- where there is room for all, they are one text
 none_whole : (o : List ℕ) (at : ℕ) (room : Bool) → cond room (take at o ++ drop at o) o ≡ o
@@ -94,5 +101,5 @@ all_whole o at (t ∷ ts) h =
     placed_then o (placed o at t) _ at (place_after o at t) _ t (flatten ts) (omega arith) p
     (all_whole (placed o at t) (place_after o at t) ts (omega (arith, placed_long o at t)))
 
-pub puts_whole : (o o' : List ℕ) (at r : ℕ) (ts : List (List ℕ)) → at + length (flatten ts) ≤ length o → Puts o o' at r ts → Placed o o' at r (flatten ts)
-puts_whole o o' at r ts h p = rw (p.is, p.next) (all_whole o at ts h)
+pub puts_whole : {t t' : Text} {ts : List (List ℕ)} → t.end + length (flatten ts) ≤ length t.out.now → Puts t t' ts → Appended t t' (flatten ts)
+puts_whole {t} {ts = ts} h p = record { same = p.same; placed = rw (p.is, p.next) (all_whole t.out.now t.end ts h) }

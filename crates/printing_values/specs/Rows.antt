@@ -1,21 +1,24 @@
 -- A row for each span: its start, then a fraction of each column. Definitions only.
-use Rattle.std.specs.Prelude.{ℕ, suc, ◌-◌, ◌/◌, ◌^◌, List, [], ◌∷◌, ◌++◌, ℤ, Float, drop, get_or, length, take}
+use Rattle.std.specs.Prelude.{ℕ, suc, ◌-◌, ◌/◌, ◌^◌, List, [], ◌∷◌, ◌++◌, ℤ, Float, drop, get_or, length}
 use Rattle.std.specs.Float.{nan}
 use Rattle.protocol.specs.Words.{next_instant, next_natural}
 use Rattle.protocol_lists.specs.Lists.{or_none, values_of}
+use Rattle.replies.specs.declared.forms.Columns.{Columns}
+use Rattle.replies.specs.declared.forms.Columns.TheVariants.{One, Two}
 use Rattle.replies.specs.declared.forms.SpanRows.{SpanRows}
 use Rattle.printing_values.specs.Texts.{fractions, instant}
 
--- the fractions of row i in two columns: the first begins where the list does, the second in its middle
-abbrev pub two : List Float → ℕ → List Float
-two xs i = get_or xs i nan ∷ get_or (drop (length xs / 2) xs) i nan ∷ []
+-- the fractions of row i, one of each column: the first column begins where the list does, the second in its middle
+abbrev pub entries : Columns → List Float → ℕ → List Float
+entries One xs i = get_or xs i nan ∷ []
+entries Two xs i = get_or xs i nan ∷ get_or (drop (length xs / 2) xs) i nan ∷ []
 
 -- row i, of the span that starts at t
-abbrev pub row : ℕ → List Float → ℕ → ℤ → List (List ℕ)
-row columns xs i t = instant t ++ fractions (take columns (two xs i))
+abbrev pub row : Columns → List Float → ℕ → ℤ → List (List ℕ)
+row columns xs i t = instant t ++ fractions (entries columns xs i)
 
 -- a row for each start, from row i on
-unfoldable pub rows_from : ℕ → List Float → ℕ → List ℤ → List (List ℕ)
+unfoldable pub rows_from : Columns → List Float → ℕ → List ℤ → List (List ℕ)
 rows_from columns xs i [] = []
 rows_from columns xs i (t ∷ ts) = row columns xs i t ++ rows_from columns xs (suc i) ts
 

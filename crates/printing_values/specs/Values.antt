@@ -35,5 +35,5 @@ values (reply.TheVariants.Parameters p) s xs = fractions (params_listed p)
 values reply.TheVariants.Inadmissible s xs = []
 values (reply.TheVariants.Walked w) s xs = walked w
 values (reply.TheVariants.Searched f) s xs = searched f
-values (reply.TheVariants.Listed count n) s xs = natural count ++ fractions (take n xs)
+values (reply.TheVariants.Listed count len) s xs = natural count ++ fractions (take len xs)
 values (reply.TheVariants.Spanned r) s xs = natural r.count ++ rows r s xs

@@ -3,12 +3,12 @@ ghost use Rattle.std.specs.Prelude.{◌++◌, take};
 ghost use Rattle.printing_values.specs.Texts.{Puts, fractions, natural};
 
 use crate::numbers;
+use text_write::Text;
 
-// How many entries, then the fractions that they are made of.
-pub(crate) fn put(out: &mut [u8], at: usize, count: usize, n: usize, xs: &[f64]) -> usize
-    ensures { Puts out.old out.new at result (natural count ++ fractions (take n xs.now)) }
+// How many entries, then the len fractions that they are made of.
+pub(crate) fn put(text: &mut Text, count: usize, len: usize, xs: &[f64])
+    ensures { Puts text.old text.new (natural count ++ fractions (take len xs.now)) }
 {
-    let k = numbers::put_natural(out, at, count as u64);
-    let most = n.min(xs.len());
-    numbers::put_fractions(out, k, &xs[..most])
+    numbers::put_natural(text, count as u64);
+    numbers::put_fractions(text, &xs[..len.min(xs.len())]);
 }

@@ -1,28 +1,30 @@
 // Numbers, each after a blank.
 ghost use Rattle.printing_values.specs.Texts.{Puts, fractions, instant, natural};
 
-// put_natural and put_instant stay two: a trait of what is printed, with its law, is longer than both.
-pub(crate) fn put_natural(out: &mut [u8], at: usize, n: u64) -> usize
-    ensures { Puts out.old out.new at result (natural n) }
+use text_write::Text;
+
+// put_natural and put_instant stay two: a trait of what is printed, with its law, is longer than
+// both, and so are their callers where each puts the blank by itself.
+pub(crate) fn put_natural(text: &mut Text, n: u64)
+    ensures { Puts text.old text.new (natural n) }
 {
-    let k = text_write::put(out, at, b" ");
-    text_write::put_decimal(out, k, n)
+    text.put(b" ");
+    text.put_decimal(n);
 }
 
-pub(crate) fn put_instant(out: &mut [u8], at: usize, i: i64) -> usize
-    ensures { Puts out.old out.new at result (instant i) }
+pub(crate) fn put_instant(text: &mut Text, i: i64)
+    ensures { Puts text.old text.new (instant i) }
 {
-    let k = text_write::put(out, at, b" ");
-    text_write::put_instant(out, k, i)
+    text.put(b" ");
+    text.put_instant(i);
 }
 
-pub(crate) fn put_fractions(out: &mut [u8], at: usize, xs: &[f64]) -> usize
-    ensures { Puts out.old out.new at result (fractions xs.now) }
+// NaNs are one class: one pattern is written for all of them.
+pub(crate) fn put_fractions(text: &mut Text, xs: &[f64])
+    ensures { Puts text.old text.new (fractions xs.now) }
 {
-    let mut k = at;
     for x in xs {
-        k = text_write::put(out, k, b" ");
-        k = text_write::put_hex(out, k, text_bits::bits_of(*x));
+        text.put(b" ");
+        text.put_hex(std::num::f64_to_bits_with_nan(*x));
     }
-    k
 }

@@ -23,12 +23,12 @@ pub fn only<T: Copy>(read: Option<(T, &[u8])>) -> Option<T>
     if rest.is_empty() { Some(value) } else { None }
 }
 
-// A fraction.
+// A fraction. NaNs are one class: each pattern of one reads as NaN, and one is written.
 pub fn read_fraction(s: &[u8]) -> Option<(f64, &[u8])>
     ensures { a_fraction s.now ≡ got_of result }
 {
     let (bits, rest) = text_read::read_hex(s)?;
-    Some((text_bits::float_of(bits), rest))
+    Some((std::num::f64_from_bits_with_nan(bits), rest))
 }
 
 // The fraction after a blank.

@@ -20,13 +20,20 @@ pub struct Search {
     pub epsilon: f64,
 }
 
-// A row for each span: how many spans, whether one or two columns of fractions, and the place in the
-// request before its list of starts. The columns stand in a list beside the reply, the second from
-// the middle of the list on.
+// The columns of fractions of a reply that has a row for each span. They stand in a list beside the
+// reply, the second from the middle of the list on.
+#[derive(Clone, Copy)]
+pub enum Columns {
+    One,
+    Two,
+}
+
+// A row for each span: how many spans, the columns, and the place in the request before its list of
+// starts.
 #[derive(Clone, Copy)]
 pub struct SpanRows {
     pub count: usize,
-    pub columns: usize,
+    pub columns: Columns,
     pub starts: usize,
 }
 
@@ -43,7 +50,7 @@ pub enum Reply {
     Inadmissible,
     Walked(Report),
     Searched(Search),
-    // so many entries, of so many fractions in all, which stand in a list beside the reply
-    Listed(usize, usize),
+    // so many entries, of len fractions in all, which stand in a list beside the reply
+    Listed { count: usize, len: usize },
     Spanned(SpanRows),
 }

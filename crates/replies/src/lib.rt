@@ -4,4 +4,4 @@
 
 pub mod forms; // forms.rt: the replies
 
-pub use forms::{Reply, Report, Search, SpanRows};
+pub use forms::{Columns, Reply, Report, Search, SpanRows};

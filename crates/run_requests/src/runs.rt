@@ -62,7 +62,7 @@ fn fill(m: M2N, weights: &[f64], places: usize, xs: &mut [f64]) -> Reply
     match ef3m_runs::mp_fit(m, weights, &mut rows[..room.min(64)]) {
         Ok(n) => {
             put_rows(xs, &rows[..n]);
-            Reply::Listed(n, 6 * n)
+            Reply::Listed { count: n, len: 6 * n }
         }
         Err(refusal) => Reply::Refused(refusal),
     }

@@ -1,13 +1,14 @@
 -- Why a sheet is turned away, as it is printed: a number, and perhaps a blank and a line. Assumes nothing.
 use Prim.Native.Nat.{ℕ, ◌+◌, ◌≤◌}
-use mathlib.Core.List.{List, ◌++◌}
+use mathlib.Core.List.{List, ◌++◌, append_assoc}
 use native.Mathlib.Omega.{arith}
 use lib.ListN.{length, length-append}
 use Rattle.refusal.specs.Numbers.{number_of}
 use Rattle.refusal.specs.declared.Refusal.TheVariants as refusals
-use Rattle.text.specs.Print.{Placed}
 use Rattle.text.proofs.Digits.{decimal_short}
-use Rattle.text.proofs.Placing.{placed_length, placed_next, placed_then}
+use Rattle.text_write.specs.Appending.{Appended}
+use Rattle.text_write.specs.declared.Text.{Text}
+use Rattle.text_write.proofs.Appending.{appended_then}
 use Rattle.sheet_read.specs.declared.SheetError.{SheetError}
 use Rattle.sheet_read.specs.declared.SheetError.TheVariants.{Refused, NotASpan}
 use Rattle.sheet.specs.CountSheet.{reason}
@@ -18,11 +19,6 @@ reason_short (Refused e) = omega (arith, decimal_short (number_of e))
 reason_short (NotASpan line) = simp length-append (omega (arith, decimal_short (number_of refusals.NotASpan), decimal_short line))
 
 -- three texts one after another
-module _ (o₀ o₁ o₂ o₃ : List ℕ) (i₀ i₁ i₂ i₃ : ℕ) (t u v : List ℕ) where
-  pub placed_three : i₀ + length t + length u + length v ≤ length o₀ → Placed o₀ o₁ i₀ i₁ t → Placed o₁ o₂ i₁ i₂ u → Placed o₂ o₃ i₂ i₃ v
-      → Placed o₀ o₃ i₀ i₃ (t ++ (u ++ v))
-  placed_three h p q r =
-      let a : i₀ + length t ≤ length o₀ = omega arith in
-      let b : i₀ + length t + length (u ++ v) ≤ length o₀ = simp length-append (omega arith) in
-      let c : i₁ + length u + length v ≤ length o₁ = omega (arith, placed_next o₀ o₁ i₀ i₁ t a p, placed_length o₀ o₁ i₀ i₁ t a p) in
-      placed_then o₀ o₁ o₃ i₀ i₁ i₃ t (u ++ v) b p (placed_then o₁ o₂ o₃ i₁ i₂ i₃ u v c q r)
+pub appended_three : {t₀ t₁ t₂ t₃ : Text} {u v w : List ℕ} → t₀.end + length u + length v + length w ≤ length t₀.out.now
+    → Appended t₀ t₁ u → Appended t₁ t₂ v → Appended t₂ t₃ w → Appended t₀ t₃ (u ++ (v ++ w))
+appended_three {u = u} {v = v} {w = w} h p q r = rw append_assoc at (appended_then (simp length-append (omega arith)) (appended_then (omega arith) p q) r)

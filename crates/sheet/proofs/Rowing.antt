@@ -18,8 +18,9 @@ use Rattle.bet_sizing.specs.declared.counts.Side.TheVariants.{Long, Short}
 use Rattle.bet_sizing.specs.Counts.{concurrent, live, on_side, whole}
 use Rattle.bet_sizing.proofs.Ranks.{indicator_le}
 use Rattle.budget.specs.Budget.{budget_size}
-use Rattle.text.specs.Print.{Placed}
 use Rattle.text.proofs.Placing.{Front, front_then}
+use Rattle.text_write.specs.Appending.{Appended}
+use Rattle.text_write.specs.declared.Text.{Text}
 use Rattle.sheet_rows.proofs.Rows.{row_short}
 use Rattle.sheet_rows.specs.Rows.{row_line}
 use Rattle.sheet.specs.Meaning.{Countable}
@@ -39,8 +40,8 @@ whole_back n h = (unsigned_back binary64 64 n (rw (le-leb n 9007199254740992 (om
 
 -- ---- one row more
 -- with i rows put
-abbrev pub Rowed : ℕ → List ℤ → List ℤ → List Float → List ℕ → ℕ → ℕ → Type 0
-Rowed n ss es ds out at i = Front n out at (flat_map (row_at ss es ds) (take i ss)) (128 * i)
+abbrev pub Rowed : ℕ → List ℤ → List ℤ → List Float → Text → ℕ → Type 0
+Rowed n ss es ds t i = Front n t.out.now t.end (flat_map (row_at ss es ds) (take i ss)) (128 * i)
 
 -- the counts and sizes at each start beside them
 pub record Beside (ss es : List ℤ) (ds long short size : List Float) : Type 0 where
@@ -48,21 +49,21 @@ pub record Beside (ss es : List ℤ) (ds long short size : List Float) : Type 0 
   pub shorts : (i : ℕ) → i < length ss → get_or short i nan ≡ whole (concurrent Short (get_or ss i (pos 0)) ss es ds)
   pub sizes : (i : ℕ) → i < length ss → get_or size i nan ≡ budget_size ss es ds (get_or ss i (pos 0))
 
-module _ (ss es : List ℤ) (ds long short size : List Float) (o : List ℕ) (h : Countable ss es ds o) (b : Beside ss es ds long short size) where
-  pub row_one : (out out' : List ℕ) (at r i : ℕ) → i < length ss → Rowed (length o) ss es ds out at i
-      → Placed out out' at r (row_line (record {
+module _ (ss es : List ℤ) (ds long short size : List Float) (t₀ : Text) (h : Countable ss es ds t₀) (b : Beside ss es ds long short size) where
+  pub row_one : (u u' : Text) (i : ℕ) → i < length ss → Rowed (length t₀.out.now) ss es ds u i
+      → Appended u u' (row_line (record {
         at = get_or ss i (pos 0);
         long = to_unsigned 64 (get_or long i nan);
         short = to_unsigned 64 (get_or short i nan);
         size = to_bits binary64 (get_or size i nan);
       }))
-      → Rowed (length o) ss es ds out' r (i + 1)
+      → Rowed (length t₀.out.now) ss es ds u' (i + 1)
   unfolding row_at
-  row_one out out' at r i below w p =
+  row_one u u' i below w p =
       let t = get_or ss i (pos 0) in
       let few = h.few in
       let back : (side : Side) → to_unsigned 64 (whole (concurrent side t ss es ds)) ≡ concurrent side t ss es ds = λ side. whole_back (concurrent side t ss es ds) (omega (arith, few, concurrent_few side t ss es ds)) in
-      let q : Placed out out' at r (row_at ss es ds t) = rw (b.longs i below, b.shorts i below, b.sizes i below, back Long, back Short) at p in
+      let q : Appended u u' (row_at ss es ds t) = rw (b.longs i below, b.shorts i below, b.sizes i below, back Long, back Short) at p in
       let k : 128 * (i + 1) ≡ 128 * i + 128 = omega arith in
       rw (take_more ss i (pos 0) below, flat_map-append, append-nil, k)
-      (front_then 128 (omega (arith, h.room)) (row_short _) w q)
+      (front_then 128 (omega (arith, h.blank.room)) (row_short _) w q.placed)

@@ -1,47 +1,49 @@
 // A sheet as a whole, bytes in to bytes out.
 ghost use Rattle.std.specs.Prelude.{◌≤◌, ◌+◌, length};
-ghost use Rattle.text.specs.Print.{Fronts, Placed};
+ghost use Rattle.text.specs.Print.{Placed};
+ghost use Rattle.text_write.specs.Appending.{Appended};
 ghost use Rattle.sheet.specs.CountSheet.{count_sheet, reason, refusal};
+ghost use Rattle.sheet.specs.Meaning.{Blank, Written};
 
 use crate::rows;
 use refusal::Refusal;
 use sheet_read::SheetError;
+use text_write::Text;
 
 // Puts document 01's number, and the line that is no span form.
-fn put_reason(out: &mut [u8], at: usize, error: SheetError) -> usize
-    requires { at + 41 ≤ length out.old }
-    ensures { Placed out.old out.new at result (reason error) }
+fn put_reason(text: &mut Text, error: SheetError)
+    requires { text.old.end + 41 ≤ length text.old.out.now }
+    ensures { Appended text.old text.new (reason error) }
 {
     match error {
-        SheetError::Refused(refusal) => text_write::put_decimal(out, at, u64::from(refusal)),
+        SheetError::Refused(refusal) => text.put_decimal(u64::from(refusal)),
         SheetError::NotASpan { line } => {
-            let a = text_write::put_decimal(out, at, u64::from(Refusal::NotASpan));
-            let b = text_write::put(out, a, b" ");
-            text_write::put_decimal(out, b, line as u64)
+            text.put_decimal(u64::from(Refusal::NotASpan));
+            text.put(b" ");
+            text.put_decimal(line as u64);
         }
     }
 }
 
-fn put_refusal(out: &mut [u8], error: SheetError) -> usize
-    requires { 131072 ≤ length out.old }
-    ensures { Fronts out.new result (refusal error) }
+fn put_refusal(text: &mut Text, error: SheetError)
+    requires { Blank text.old }
+    ensures { Written text.new (refusal error) }
 {
-    let a = text_write::put(out, 0, b"(refused ");
-    let b = put_reason(out, a, error);
-    text_write::put(out, b, b")\n")
+    text.put(b"(refused ");
+    put_reason(text, error);
+    text.put(b")\n");
 }
 
-// Puts a sheet's answer at the front of out, which has room for 1,024 rows of 128 bytes.
-fn put_answer(s: &[u8], out: &mut [u8]) -> usize
-    requires { 131072 ≤ length out.old }
-    ensures { Fronts out.new result (count_sheet s.now) }
+fn put_answer(text: &mut Text, s: &[u8])
+    requires { Blank text.old }
+    ensures { Written text.new (count_sheet s.now) }
 {
     let mut starts = [0i64; 1024];
     let mut ends = [0i64; 1024];
     let mut sides = [0.0f64; 1024];
     match sheet_read::read_sheet(s, &mut starts, &mut ends, &mut sides) {
-        Ok(n) => rows::put(&starts[..n], &ends[..n], &sides[..n], out),
-        Err(error) => put_refusal(out, error),
+        Ok(n) => rows::put(text, &starts[..n], &ends[..n], &sides[..n]),
+        Err(error) => put_refusal(text, error),
     }
 }
 
@@ -53,6 +55,9 @@ pub fn count_sheet(s: &[u8], out: &mut [u8]) -> usize
     ensures within { result ≤ length out.new }
 {
     let mut room = [0u8; 131072]; // for 1,024 rows of 128 bytes
-    let n = put_answer(s, &mut room);
-    text_write::put(out, 0, &room[..n])
+    let mut answer = Text::new(&mut room);
+    put_answer(&mut answer, s);
+    let mut text = Text::new(out);
+    text.put(answer.as_bytes());
+    text.end()
 }

@@ -52,7 +52,8 @@ fn check(s: &[u8]) -> Result<usize, SheetError>
     Ok(n)
 }
 
-// Takes the spans of a sheet that was accepted into lists that have a place for each.
+// Takes the spans of a sheet that was accepted into lists that have a place for each. NaNs are one
+// class: each pattern of one is read as NaN.
 fn take_spans(s: &[u8], starts: &mut [i64], ends: &mut [i64], sides: &mut [f64])
     requires { Fillable s.now starts.old ends.old sides.old }
     ensures { HeldBy (sheet s.now) starts.new ends.new sides.new }
@@ -64,7 +65,7 @@ fn take_spans(s: &[u8], starts: &mut [i64], ends: &mut [i64], sides: &mut [f64])
         };
         starts[i] = span.from;
         ends[i] = span.to;
-        sides[i] = text_bits::float_of(span.side);
+        sides[i] = std::num::f64_from_bits_with_nan(span.side);
         rest = after;
     }
 }

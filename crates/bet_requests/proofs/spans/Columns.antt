@@ -19,6 +19,7 @@ use Rattle.bet_sizing.specs.declared.counts.Side.TheVariants.{Long, Short}
 use Rattle.bet_sizing.specs.Counts.{concurrent, concurrent_counts, whole}
 use Rattle.bet_sizing.specs.Refusals.{ConcurrentSides, spans_refusal}
 use Rattle.bet_sizing.proofs.Refusing.{accepted, accepted_in, fits}
+use Rattle.replies.specs.declared.forms.Columns.TheVariants.{One, Two}
 use Rattle.bet_requests.specs.Spans.{asked_of, refusal, sides_in, sides_refusal, sides_rows, sizes_in, sizes_rows}
 
 -- the first k of a list with n new elements in front, and the others as they were
@@ -42,7 +43,7 @@ refused (Err x) n h = cc
 module _ (room from k : ℕ) (xs : List Float) {ss es : List ℤ} {ds : List Float} where
   -- the sizes, as bet_size_budget leaves them in the first k places of xs
   pub sizes_of_all : {size : List Float} {r : Result ℕ Refusal} {n : ℕ} → k ≡ min room (length xs) → BetSizeBudget ss es ds (take k xs) size r → r ≡ Ok n
-      → (Ok (record { count = n; columns = 1; starts = from }) ≡ sizes_rows (length xs) (asked_of room from ss es ds)) × (size ++ drop k xs ≡ sizes_in xs (asked_of room from ss es ds))
+      → (Ok (record { count = n; columns = One; starts = from }) ≡ sizes_rows (length xs) (asked_of room from ss es ds)) × (size ++ drop k xs ≡ sizes_in xs (asked_of room from ss es ds))
   sizes_of_all {size} {r} {n} is-k h e =
       let l : length (take k xs) ≡ k = length-take-le k xs (omega arith) in
       let a = accepted (spans_refusal (length ss) (length es) (length ds) (length (take k xs))) (length ss) n (sym h.answered ∙ e) in
@@ -66,7 +67,7 @@ module _ (room from k : ℕ) (xs : List Float) {ss es : List ℤ} {ds : List Flo
 
   -- the counts, as get_concurrent_sides leaves them in the first k places of xs and in another list, from which the shorts of n spans are copied
   pub sides_of_all : {long old short copied : List Float} {r : Result ℕ Refusal} {n : ℕ} → k ≡ min room (length xs / 2) → length old ≡ 4096 → ConcurrentSides ss es ds (take k xs) long old short r → r ≡ Ok n → copied ≡ take n short
-      → (Ok (record { count = n; columns = 2; starts = from }) ≡ sides_rows (length xs) (asked_of room from ss es ds))
+      → (Ok (record { count = n; columns = Two; starts = from }) ≡ sides_rows (length xs) (asked_of room from ss es ds))
       × (put_mid (length xs / 2) (length xs / 2 + n - length xs / 2) (long ++ drop k xs) copied ≡ sides_in xs (asked_of room from ss es ds))
   sides_of_all {long} {old} {short} {copied} {r} {n} is-k lo h e c =
       let half : ℕ = length xs / 2 in

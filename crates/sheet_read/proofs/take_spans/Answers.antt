@@ -19,7 +19,7 @@ loop-i-preserved c =
     let l = c.loop-i in
     let a = c.args in
     let v = c.in-Some in
-    rw (to_z-of_z w64 v.span.from (search rules), to_z-of_z w64 v.span.to (search rules), c.float_of.ensures)
+    rw (to_z-of_z w64 v.span.from (search rules), to_z-of_z w64 v.span.to (search rules), c.f64_from_bits_with_nan.ensures)
     (put a.s.now l.rest.now l.i a.starts.now l.starts a.ends.now l.ends a.sides.now l.sides c.requires l.invariant c.loop-i-test.true v.span v.after.now v.ensures)
 
 pub returns : goal.returns

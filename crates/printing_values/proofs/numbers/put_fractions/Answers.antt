@@ -5,7 +5,7 @@ use Rattle.printing_values.proofs.numbers.put_fractions.Goals as goal
 
 pub loop-x-preserved : goal.loop-x-preserved
 loop-x-preserved c =
-    left_fraction c.args.xs.now c.loop-x.x-index (omega arith) c.loop-x.invariant c.put-k.ensures c.bits_of.ensures c.put_hex-k.ensures
+    left_fraction c.args.xs.now c.loop-x.x-index (omega arith) c.loop-x.invariant c.put.ensures c.f64_to_bits_with_nan.ensures c.put_hex.ensures
 
 pub returns : goal.returns
 returns c = no_fraction c.args.xs.now c.loop-x.x-index (omega arith) c.loop-x.invariant

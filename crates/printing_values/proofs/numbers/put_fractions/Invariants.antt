@@ -5,5 +5,4 @@ use Rattle.printing_values.proofs.Putting.{Left}
 use Rattle.printing_values.proofs.numbers.put_fractions.Given as goal
 
 abbrev pub invariant-loop-x : goal.invariant-loop-x
-invariant-loop-x l =
-    Left l.initial.out l.at (fractions l.xs) l.out l.k (fractions (drop l.x-index l.xs))
+invariant-loop-x l = Left l.initial.text (fractions l.xs) l.text (fractions (drop l.x-index l.xs))

@@ -11,4 +11,4 @@ pub returns : goal.returns
 returns c =
     let s = c.args.s.now in
     let l : length (drop c.args.r.starts s) ≤ length s - min c.args.r.starts (length s) = rw length-drop (omega arith) in
-    puts_then c.put_natural-k.ensures (rw (c.min.ensures, drop_min, take_all _ _ l) at c.put_rows.ensures)
+    puts_then c.put_natural.ensures (rw (c.min.ensures, drop_min, take_all _ _ l) at c.put_rows.ensures)

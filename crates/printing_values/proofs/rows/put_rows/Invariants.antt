@@ -8,4 +8,4 @@ use Rattle.printing_values.proofs.rows.put_rows.Given as goal
 
 abbrev pub invariant-loop-i : goal.invariant-loop-i
 invariant-loop-i l =
-    Left l.initial.out l.at (rows_from l.most l.xs 0 (values_of next_instant l.n l.initial.rest)) l.out l.to (rows_from l.most l.xs l.i (values_of next_instant (l.n - l.i) l.rest))
+    Left l.initial.text (rows_from l.columns l.xs 0 (values_of next_instant l.n l.initial.rest)) l.text (rows_from l.columns l.xs l.i (values_of next_instant (l.n - l.i) l.rest))

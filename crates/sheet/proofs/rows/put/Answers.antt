@@ -11,7 +11,7 @@ use Rattle.sheet.proofs.Rowing.{Beside, row_one}
 use Rattle.sheet.proofs.rows.put.Goals as goal
 
 pub loop-i-init : goal.loop-i-init
-loop-i-init c = front_none _
+loop-i-init c = rw c.requires.blank.empty (front_none _)
 
 pub loop-i-preserved : goal.loop-i-preserved
 loop-i-preserved c =
@@ -19,5 +19,5 @@ loop-i-preserved c =
     let a = c.args in
     let z = to_z-of_z w64 (get_or a.starts.now l.i (pos 0)) (search rules) in
     let b : Beside a.starts.now a.ends.now a.sides.now c.get_concurrent_sides.new.long c.get_concurrent_sides.new.short c.bet_size_budget.new.size = grind (arith, common_steps) in
-    let p = rw (z, c.as_usize.ensures, c.as_usize-in-loop-i.ensures, c.bits_of.ensures) at c.put_row-end.ensures in
-    row_one a.starts.now a.ends.now a.sides.now _ _ _ a.out.now c.requires b l.out c.put_row-end.new.out l.end c.put_row-end.result l.i c.loop-i-test.true l.invariant p
+    let p = rw (z, c.as_usize.ensures, c.as_usize-in-loop-i.ensures, c.f64_to_bits_with_nan.ensures) at c.put_row.ensures in
+    row_one a.starts.now a.ends.now a.sides.now _ _ _ a.text.now c.requires b l.text c.put_row.new.text l.i c.loop-i-test.true l.invariant p

@@ -1,10 +1,10 @@
--- The number alone, or the number, a blank and the line one after another (`placed_three`).
+-- The number alone, or the number, a blank and the line one after another (`appended_three`).
 use native.Mathlib.Omega.{arith}
 use Rattle.text.specs.Bytes.{bytes}
 use Rattle.text.specs.Print.{decimal}
 use Rattle.text.proofs.Digits.{decimal_short}
 use Rattle.sheet.specs.CountSheet.{reason}
-use Rattle.sheet.proofs.Refusing.{placed_three}
+use Rattle.sheet.proofs.Refusing.{appended_three}
 use Rattle.sheet.proofs.whole.put_reason.Goals as goal
 
 pub returns-in-Refused : goal.returns-in-Refused
@@ -15,6 +15,5 @@ pub returns-in-NotASpan : goal.returns-in-NotASpan
 unfolding reason
 returns-in-NotASpan c =
     rw (c.in-NotASpan.is, ← c.from-in-NotASpan.ensures)
-    (placed_three c.args.out.now _ _ _ c.args.at _ _ _ (decimal c.from-in-NotASpan.result) (bytes " ") (decimal c.in-NotASpan.line)
-    (omega (arith, decimal_short c.from-in-NotASpan.result, decimal_short c.in-NotASpan.line))
-    c.put_decimal-a.ensures c.put-b.ensures c.put_decimal-in-NotASpan.ensures)
+    (appended_three (omega (arith, c.requires, decimal_short c.from-in-NotASpan.result, decimal_short c.in-NotASpan.line))
+    c.put_decimal-in-NotASpan.ensures c.put.ensures c.put_decimal-in-NotASpan-2.ensures)

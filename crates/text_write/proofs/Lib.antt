@@ -1,0 +1,2 @@
+-- Laws that belong to no one function, on plain values.
+pub mod Appending
