@@ -4,7 +4,7 @@ use Rattle.budget.specs.Budget.{budget_sizes}
 use Rattle.bet_sizing.specs.declared.counts.Side.TheVariants.{Long, Short}
 use Rattle.bet_sizing.specs.Counts.{concurrent_counts}
 use Rattle.bet_sizing.specs.Refusals.{list_after, spans_refusal}
-use Rattle.refusal.specs.Numbers.{unless_refused}
+use Rattle.refusal.specs.Numbers.{Checked, unless_refused}
 use Rattle.refusal.specs.declared.Refusal.{Refusal}
 use Rattle.text.specs.Decode.{Got, got}
 use Rattle.protocol.specs.Words.{next_natural}
@@ -48,19 +48,19 @@ asked size = do
   reply (asked_of room from (take 4096 starts) (take 4096 ends) (take 4096 sides))
 
 -- what is turned away where the answer has so many places
-abbrev pub refusal : Asked → ℕ → Result (Unit {0}) Refusal
+abbrev pub refusal : Asked → ℕ → Checked
 refusal a places = spans_refusal (length a.starts) (length a.ends) (length a.sides) (min a.room places)
 
 -- what comes of a check: a row for each span, where nothing is refused
-abbrev pub rows : ℕ → Asked → Result (Unit {0}) Refusal → Result SpanRows Refusal
+abbrev pub rows : ℕ → Asked → Checked → Result SpanRows Refusal
 rows columns a checked = unless_refused checked (record { count = length a.starts; columns = columns; starts = a.from })
 
 -- a list after the answer: new fractions in front, or as it was where the answer is a refusal
-abbrev pub column : Result (Unit {0}) Refusal → Asked → List Float → List Float → List Float
+abbrev pub column : Checked → Asked → List Float → List Float → List Float
 column checked a new old = list_after checked (length a.starts) new old
 
 -- the counts are two columns, the longs in the first half of the lent list and the shorts in the second
-abbrev pub sides_refusal : ℕ → Asked → Result (Unit {0}) Refusal
+abbrev pub sides_refusal : ℕ → Asked → Checked
 sides_refusal n a = refusal a (n / 2)
 
 abbrev pub sides_rows : ℕ → Asked → Result SpanRows Refusal

@@ -2,13 +2,12 @@
 use Prim.Native.Nat.{ℕ, ◌≤◌}
 use mathlib.Core.Path.{◌≡◌, refl}
 use native.Mathlib.Omega.{arith}
-use Rattle.std.specs.Prelude.{Result, Ok, Err}
+use Rattle.std.specs.Prelude.{Ok, Err}
 use Rattle.std.proofs.lemmas.Bool.Decides.{nat_tests}
-use Rattle.refusal.specs.Numbers.{unless_refused}
-use Rattle.refusal.specs.declared.Refusal.{Refusal}
+use Rattle.refusal.specs.Numbers.{Checked, unless_refused}
 use Rattle.bet_sizing.specs.Refusals.{spans_refusal}
 
-pub accepted : (checked : Result (Unit {0}) Refusal) (n m : ℕ) → unless_refused checked n ≡ Ok m → (checked ≡ Ok tt) × (n ≡ m)
+pub accepted : (checked : Checked) (n m : ℕ) → unless_refused checked n ≡ Ok m → (checked ≡ Ok tt) × (n ≡ m)
 accepted (Ok u) n m e = (refl, cc)
 accepted (Err x) n m e = (cc, cc)
 

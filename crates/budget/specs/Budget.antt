@@ -7,7 +7,7 @@ use Rattle.float.specs.Leaves.{larger_of}
 use Rattle.bet_sizing.specs.declared.counts.Side.TheVariants.{Long, Short}
 use Rattle.bet_sizing.specs.Counts.{concurrent, concurrent_counts, whole}
 use Rattle.bet_sizing.specs.Refusals.{list_after, spans_refusal}
-use Rattle.refusal.specs.Numbers.{unless_refused}
+use Rattle.refusal.specs.Numbers.{Checked, unless_refused}
 use Rattle.refusal.specs.declared.Refusal.{Refusal}
 
 -- the larger of a number and of counts, one after another
@@ -35,7 +35,7 @@ abbrev pub budget_sizes : List ℤ → List ℤ → List Float → List Float
 budget_sizes ss es ds = map (budget_size ss es ds) ss
 
 -- what it turns away
-abbrev pub budget_refusal : List ℤ → List ℤ → List Float → List Float → Result (Unit {0}) Refusal
+abbrev pub budget_refusal : List ℤ → List ℤ → List Float → List Float → Checked
 budget_refusal ss es ds size = spans_refusal (length ss) (length es) (length ds) (length size)
 
 -- bet_size_budget: its answer, and the lent list before and after it

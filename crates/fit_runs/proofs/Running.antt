@@ -13,10 +13,10 @@ use borrow.Author.Rules.{part_to_end}
 use Rattle.float.specs.Constants.{nought}
 use Rattle.walk.specs.declared.M2N.{M2N}
 use Rattle.std.proofs.Common.{Option, Some, None, Result, Ok, Err}
-use Rattle.refusal.specs.Numbers.{unless_refused}
+use Rattle.refusal.specs.Numbers.{Checked, unless_refused}
 use Rattle.refusal.specs.declared.Refusal.{Refusal}
 use Rattle.refusal.specs.declared.Refusal.TheVariants.{TooManyRuns, TooLittleRoom}
-use Rattle.fit_refusals.specs.Refusals.{Checked, rows_of, grid_refusal, first_of, runs_refusal}
+use Rattle.fit_refusals.specs.Refusals.{rows_of, grid_refusal, first_of, runs_refusal}
 use Rattle.fit_runs.specs.Runs.{Runnable, rows_out, rows_to, unrefused, run_rows, mp_fit, flat_of, flat_in64, rows_at, put_in, all_runs, flat_fit}
 use Rattle.grid.specs.Search.{single_fit}
 use Rattle.fit_runs.specs.declared.Flat.{Flat}

@@ -1,10 +1,10 @@
 -- Several runs (the Rust's mp_fit): each starts from a copy of the state and takes the next weights. Definitions only.
 use Rattle.std.specs.Prelude.{List, [], ◌∷◌, ◌++◌, ℕ, zero, suc, ◌*◌, ◌-◌, ◌≤◌, length, drop, replicate, Float, Option, Some, None, Result, Ok, Err}
 use Rattle.float.specs.Constants.{nought}
-use Rattle.refusal.specs.Numbers.{unless_refused}
+use Rattle.refusal.specs.Numbers.{Checked, unless_refused}
 use Rattle.refusal.specs.declared.Refusal.{Refusal}
 use Rattle.walk.specs.declared.M2N.{M2N}
-use Rattle.fit_refusals.specs.Refusals.{Checked, rows_of, runs_refusal}
+use Rattle.fit_refusals.specs.Refusals.{rows_of, runs_refusal}
 use Rattle.grid.specs.Search.{single_fit}
 use Rattle.grid_rows.specs.FitResultRow.{six, row_at, with_row_at}
 use Rattle.grid_rows.specs.declared.FitResultRow.{FitResultRow}

@@ -7,12 +7,13 @@ use Rattle.float.specs.Constants.{nought}
 use Rattle.float.specs.Root.{root}
 use Rattle.moments.specs.Orders.{centred_sum}
 use Rattle.walk.specs.declared.M2N.{M2N}
-use Rattle.fit_refusals.specs.Refusals.{Checked, rows_of, grid_refusal}
+use Rattle.fit_refusals.specs.Refusals.{rows_of, grid_refusal}
 use Rattle.grid_rows.specs.Rows.{search_to}
 use Rattle.grid_rows.specs.declared.Search.{Search}
 use Rattle.grid.specs.Rows.{begun, centred_state, moved_state, moved_best}
 use Rattle.grid.specs.declared.search.Searched.{Searched}
 use Rattle.grid.specs.declared.Fitted.{Fitted}
+use Rattle.refusal.specs.Numbers.{Checked}
 
 -- the epsilon in force: one given for this search, or the state's own
 abbrev pub in_force : M2N → Option Float → Float

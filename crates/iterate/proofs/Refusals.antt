@@ -8,8 +8,8 @@ use lib.Ieee.{Float}
 use lib.ListN.{length}
 use Rattle.moments.specs.Figures.{listed}
 use Rattle.moments.specs.declared.Five.{Five}
-use Rattle.std.specs.Prelude.{Result, Ok, Err}
-use Rattle.refusal.specs.Numbers.{unless_refused}
+use Rattle.std.specs.Prelude.{Ok, Err}
+use Rattle.refusal.specs.Numbers.{Checked, unless_refused}
 use Rattle.refusal.specs.declared.Refusal.{Refusal}
 use Rattle.refusal.specs.declared.Refusal.TheVariants.{TooManyMoments}
 use Rattle.step.specs.Steps.{step_4, step_5, first_four}
@@ -22,12 +22,12 @@ module _ {A : Type 0} where
 
 module _ {A B : Type 0} where
   -- a refusal is passed on, whatever was to be answered
-  pub passed_on : (r : Result (Unit {0}) Refusal) (x : A) (y : B) (e : Refusal) → Err e ≡ unless_refused r x → Err e ≡ unless_refused r y
+  pub passed_on : (r : Checked) (x : A) (y : B) (e : Refusal) → Err e ≡ unless_refused r x → Err e ≡ unless_refused r y
   passed_on (Ok u) x y e h = cc
   passed_on (Err f) x y e h = grind arith
 
   -- what is answered is answered of
-  pub answered_of : (f : A → B) (r : Result (Unit {0}) Refusal) (x y : A) → Ok y ≡ unless_refused r x → Ok (f y) ≡ unless_refused r (f x)
+  pub answered_of : (f : A → B) (r : Checked) (x y : A) → Ok y ≡ unless_refused r x → Ok (f y) ≡ unless_refused r (f x)
   answered_of f (Ok u) x y h = grind arith
   answered_of f (Err e) x y h = cc
 

@@ -3,14 +3,14 @@ use Rattle.std.specs.Prelude.{cond, List, ◌++◌, ℕ, ltb, length, take, drop
 use Rattle.float.specs.Constants.{nought}
 use Rattle.moments.specs.Figures.{five_of}
 use Rattle.moments.specs.declared.Five.{Five}
-use Rattle.refusal.specs.Numbers.{unless_refused}
+use Rattle.refusal.specs.Numbers.{Checked, unless_refused}
 use Rattle.refusal.specs.declared.Refusal.{Refusal}
 use Rattle.refusal.specs.declared.Refusal.TheVariants.{TooFewMoments, TooManyMoments}
 use Rattle.step.specs.Steps.{step_4, step_5, first_four, first_five}
 use Rattle.step.specs.declared.Step.{Step}
 
 -- fewer moments than the step reads; more than 16
-abbrev pub step_refusal : ℕ → ℕ → Result (Unit {0}) Refusal
+abbrev pub step_refusal : ℕ → ℕ → Checked
 step_refusal needed len = cond (ltb len needed) (Err TooFewMoments) (cond (ltb 16 len) (Err TooManyMoments) (Ok tt))
 
 unfoldable pub iter4 : List Float → Float → Float → Result Step Refusal

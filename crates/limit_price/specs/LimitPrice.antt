@@ -5,7 +5,7 @@ use Rattle.std.specs.Float.{nan, binary64}
 use Rattle.std.specs.Float.Ieee.{of_int, to_signed}
 use Rattle.float.specs.Constants.{minus_nought}
 use Rattle.prices.specs.Prices.{◌⊕◌, ◌⊘◌, inv_price_sigmoid}
-use Rattle.refusal.specs.Numbers.{unless_refused}
+use Rattle.refusal.specs.Numbers.{Checked, unless_refused}
 use Rattle.refusal.specs.declared.Refusal.{Refusal}
 use Rattle.refusal.specs.declared.Refusal.TheVariants.{TooManyLots}
 
@@ -27,7 +27,7 @@ mean_of x zero = nan
 mean_of x (suc n) = summed x (suc n) ⊘ of_int binary64 (pos (suc n))
 
 -- more than 1,000,000 lots are not walked
-abbrev pub lots_refusal : ℕ → Result (Unit {0}) Refusal
+abbrev pub lots_refusal : ℕ → Checked
 lots_refusal lots = cond (ltb 1000000 lots) (Err TooManyLots) (Ok tt)
 
 -- the walk over d lots, of which a negative number goes down

@@ -1,6 +1,6 @@
 -- What centered_moment and raw_moment answer: document 01's refusals in its order, and otherwise the sums. Definitions only.
 use Rattle.std.specs.Prelude.{List, ◌++◌, cond, ℕ, ltb, max, length, drop, Float, Result, Ok, Err}
-use Rattle.refusal.specs.Numbers.{unless_refused}
+use Rattle.refusal.specs.Numbers.{Checked, unless_refused}
 use Rattle.refusal.specs.declared.Refusal.{Refusal}
 use Rattle.refusal.specs.declared.Refusal.TheVariants.{TooFewMoments, TooManyMoments, TooLittleRoom, OrderTooHigh}
 use Rattle.moments.specs.Orders.{centred_sum, raw_value, firsts}
@@ -10,14 +10,14 @@ abbrev pub at_least_one : ℕ → ℕ
 at_least_one n = max n 1
 
 -- an order above 16; fewer moments than the larger of order and 1; more than 16
-abbrev pub centred_refusal : ℕ → ℕ → Result (Unit {0}) Refusal
+abbrev pub centred_refusal : ℕ → ℕ → Checked
 centred_refusal len order =
     cond (ltb 16 order) (Err OrderTooHigh)
     (cond (ltb len (at_least_one order)) (Err TooFewMoments)
     (cond (ltb 16 len) (Err TooManyMoments) (Ok tt)))
 
 -- more than 16 centred moments; room below the larger of their number and 1
-abbrev pub raw_refusal : ℕ → ℕ → Result (Unit {0}) Refusal
+abbrev pub raw_refusal : ℕ → ℕ → Checked
 raw_refusal len room =
     cond (ltb 16 len) (Err TooManyMoments)
     (cond (ltb room (at_least_one len)) (Err TooLittleRoom) (Ok tt))
@@ -26,7 +26,7 @@ unfoldable pub centred_moment : List Float → ℕ → Result Float Refusal
 unfolding centred_sum
 centred_moment m n = unless_refused (centred_refusal (length m) n) (centred_sum m n)
 
-abbrev pub raw_kept : Result (Unit {0}) Refusal → List Float → List Float → List Float
+abbrev pub raw_kept : Checked → List Float → List Float → List Float
 raw_kept (Ok u) written before = written
 raw_kept (Err e) written before = before
 

@@ -12,7 +12,7 @@ ghost use Rattle.moments.specs.Refusals.{centred_moment, centred_refusal, raw_mo
 use refusal::Refusal;
 
 // The parameters of a mixture: weight p_1 on N(mu_1, sigma_1²) and 1 - p_1 on N(mu_2, sigma_2²).
-#[derive(Clone, Copy)]
+#[derive(Clone, Copy, Debug, Default, PartialEq)]
 pub struct Params {
     pub mu_1: f64,
     pub mu_2: f64,
@@ -22,7 +22,7 @@ pub struct Params {
 }
 
 // The first five raw moments.
-#[derive(Clone, Copy)]
+#[derive(Clone, Copy, Debug, Default, PartialEq)]
 pub struct Five {
     pub m_1: f64,
     pub m_2: f64,

@@ -19,6 +19,10 @@ number_of TooManyLots = 12
 number_of TooManyRuns = 13
 number_of NotASpan = 15
 
+-- what a check answers
+abbrev pub Checked : Type 0
+Checked = Result (Unit {0}) Refusal
+
 module _ {A : Type 0} where
   -- the number of the refusal; nothing is refused by 0, so 0 stands for no refusal
   abbrev pub status_of : Result A Refusal → ℕ
@@ -26,6 +30,6 @@ module _ {A : Type 0} where
   status_of (Err e) = number_of e
 
   -- the value where nothing is refused
-  abbrev pub unless_refused : Result (Unit {0}) Refusal → A → Result A Refusal
+  abbrev pub unless_refused : Checked → A → Result A Refusal
   unless_refused (Ok u) x = Ok x
   unless_refused (Err e) x = Err e

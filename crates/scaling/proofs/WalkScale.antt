@@ -19,7 +19,7 @@ use Rattle.walk.specs.declared.M2N.{M2N}
 use Rattle.walk.specs.declared.Ended.{Ended}
 use Rattle.walk.specs.declared.Reason.{Reason}
 use Rattle.walk.specs.declared.Reason.TheVariants.{Spent}
-use Rattle.refusal.specs.Numbers.{unless_refused}
+use Rattle.refusal.specs.Numbers.{Checked, unless_refused}
 use Rattle.refusal.specs.declared.Refusal.{Refusal}
 use Rattle.std.specs.Prelude.{Result, Ok, Err}
 use Rattle.std.specs.Result.{is_ok}
@@ -108,14 +108,14 @@ trails_scale s m m' μ p t d d' n g h =
     m.max_iter μ p d.mean d'.mean d.weight g h')
 
 -- ---- what a walk returns, by its refusal
-abbrev outcome_by : Result (Unit {0}) Refusal → ℕ → List Step → Result Ended Refusal
+abbrev outcome_by : Checked → ℕ → List Step → Result Ended Refusal
 outcome_by r limit t = unless_refused r (record { count = length t; reason = reason_of limit t })
 
 outcome_is : (m : M2N) (μ p : Float) → (walk_of m μ p).outcome ≡ outcome_by (walk_refusal m p) m.max_iter (trail_of m μ p)
 unfolding walk_of
 outcome_is m μ p = go (walk_refusal m p)
   where
-    go : (r : Result (Unit {0}) Refusal) → (answered r m (keep_all m (trail_of m μ p)) (trail_of m μ p)).outcome ≡ outcome_by r m.max_iter (trail_of m μ p)
+    go : (r : Checked) → (answered r m (keep_all m (trail_of m μ p)) (trail_of m μ p)).outcome ≡ outcome_by r m.max_iter (trail_of m μ p)
     go (Ok u) = refl
     go (Err e) = refl
 
@@ -127,7 +127,7 @@ counted : (m : M2N) (μ p : Float) (e : Ended) → (walk_of m μ p).outcome ≡ 
 unfolding walk_trail
 counted m μ p e h = sym (ap taken (sym (outcome_is m μ p) ∙ h)) ∙ go (walk_refusal m p)
   where
-    go : (r : Result (Unit {0}) Refusal) → taken (outcome_by r m.max_iter (trail_of m μ p)) ≡ length (cond (is_ok r) (trail_of m μ p) [])
+    go : (r : Checked) → taken (outcome_by r m.max_iter (trail_of m μ p)) ≡ length (cond (is_ok r) (trail_of m μ p) [])
     go (Ok u) = refl
     go (Err e) = refl
 
@@ -137,23 +137,23 @@ compared : (s : ℤ) (m m' : M2N) (μ p : Float) → Twins s m m' μ (scale s μ
 unfolding walk_trail fair_walk
 compared s m m' μ p t d d' g h =
     record {
-      outcomes = outcome_is m' (scale s μ) p ∙ ap₂ (λ (r : Result (Unit {0}) Refusal) (limit : ℕ). outcome_by r limit (trail_of m' (scale s μ) p)) same t.limits ∙ ends (walk_refusal m p) alike ∙ sym (outcome_is m μ p);
+      outcomes = outcome_is m' (scale s μ) p ∙ ap₂ (λ (r : Checked) (limit : ℕ). outcome_by r limit (trail_of m' (scale s μ) p)) same t.limits ∙ ends (walk_refusal m p) alike ∙ sym (outcome_is m μ p);
       count = counted m μ p;
       count' = counted m' (scale s μ) p;
-      trails = ap (λ (r : Result (Unit {0}) Refusal). cond (is_ok r) (trail_of m' (scale s μ) p) []) same ∙ lists (walk_refusal m p) alike;
+      trails = ap (λ (r : Checked). cond (is_ok r) (trail_of m' (scale s μ) p) []) same ∙ lists (walk_refusal m p) alike;
     }
   where
     same : walk_refusal m' p ≡ walk_refusal m p
     same = refusals m m' p t.variants t.numbers
 
     alike : walk_refusal m p ≡ Ok tt → trail_of m' (scale s μ) p ≡ map (scale_step s) (trail_of m μ p)
-    alike e = trails_scale s m m' μ p t d d' (enough m p e) (subst (λ (r : Result (Unit {0}) Refusal). T (cond (is_ok r) (fair_trail m μ p) true)) e g) (subst (λ (r : Result (Unit {0}) Refusal). T (cond (is_ok r) (fair_trail m' (scale s μ) p) true)) (same ∙ e) h)
+    alike e = trails_scale s m m' μ p t d d' (enough m p e) (subst (λ (r : Checked). T (cond (is_ok r) (fair_trail m μ p) true)) e g) (subst (λ (r : Checked). T (cond (is_ok r) (fair_trail m' (scale s μ) p) true)) (same ∙ e) h)
 
-    ends : (r : Result (Unit {0}) Refusal) → (r ≡ Ok tt → trail_of m' (scale s μ) p ≡ map (scale_step s) (trail_of m μ p)) → outcome_by r m.max_iter (trail_of m' (scale s μ) p) ≡ outcome_by r m.max_iter (trail_of m μ p)
+    ends : (r : Checked) → (r ≡ Ok tt → trail_of m' (scale s μ) p ≡ map (scale_step s) (trail_of m μ p)) → outcome_by r m.max_iter (trail_of m' (scale s μ) p) ≡ outcome_by r m.max_iter (trail_of m μ p)
     ends (Ok u) e = ap (outcome_by (Ok tt) m.max_iter) (e refl) ∙ ap₂ (λ (n : ℕ) (r : Reason). Ok (record { count = n; reason = r })) (length-map s (trail_of m μ p)) (reason_map s m.max_iter (trail_of m μ p))
     ends (Err f) e = refl
 
-    lists : (r : Result (Unit {0}) Refusal) → (r ≡ Ok tt → trail_of m' (scale s μ) p ≡ map (scale_step s) (trail_of m μ p)) → cond (is_ok r) (trail_of m' (scale s μ) p) [] ≡ map (scale_step s) (cond (is_ok r) (trail_of m μ p) [])
+    lists : (r : Checked) → (r ≡ Ok tt → trail_of m' (scale s μ) p ≡ map (scale_step s) (trail_of m μ p)) → cond (is_ok r) (trail_of m' (scale s μ) p) [] ≡ map (scale_step s) (cond (is_ok r) (trail_of m μ p) [])
     lists (Ok u) e = e refl
     lists (Err f) e = refl
 

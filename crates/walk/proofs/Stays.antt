@@ -9,8 +9,8 @@ use Rattle.float.specs.Constants.{nought}
 use Rattle.moments.specs.Mixture.{get_moments}
 use Rattle.moments.specs.declared.Five.{Five}
 use Rattle.moments.specs.declared.Params.{Params}
-use Rattle.refusal.specs.declared.Refusal.{Refusal}
-use Rattle.std.specs.Prelude.{Result, Ok, Err}
+use Rattle.refusal.specs.Numbers.{Checked}
+use Rattle.std.specs.Prelude.{Ok, Err}
 use Rattle.step.proofs.StepRuns.{negative_4, negative_5}
 use Rattle.step.specs.Steps.{sigma2_squared, step_4, step_5, first_four, first_five}
 use Rattle.step.specs.declared.Step.{Step}
@@ -32,7 +32,7 @@ kept_moments m (Inadmissible ∷ t) = kept_moments m t
 kept_moments m (Admitted r ∷ t) =
     kept_moments (keep_of m (Admitted r)) t ∙ better_moments (lt (error_of m (get_moments r)) m.error) m r (get_moments r) (error_of m (get_moments r))
 
-answered_moments : (r : Result (Unit {0}) Refusal) (m kept : M2N) (t : List Step) → kept.moments ≡ m.moments → (answered r m kept t).state.moments ≡ m.moments
+answered_moments : (r : Checked) (m kept : M2N) (t : List Step) → kept.moments ≡ m.moments → (answered r m kept t).state.moments ≡ m.moments
 answered_moments (Ok u) m kept t h = h
 answered_moments (Err e) m kept t h = refl
 
@@ -54,7 +54,7 @@ unfolding keep_all keep_of trail_from
 none_kept m step ε zero μ p e = refl
 none_kept m step ε (suc n) μ p e = ap (keep_all m) (out step ε n μ p e)
 
-answered_same : (r : Result (Unit {0}) Refusal) (m kept : M2N) (t : List Step) → kept ≡ m → (answered r m kept t).state ≡ m
+answered_same : (r : Checked) (m kept : M2N) (t : List Step) → kept ≡ m → (answered r m kept t).state ≡ m
 answered_same (Ok u) m kept t h = h
 answered_same (Err e) m kept t h = refl
 

@@ -14,6 +14,7 @@ use Rattle.float.specs.Power.{power_of}
 use Rattle.formula.specs.Formula.{eval}
 use Rattle.moments.specs.Mixture.{get_moments}
 use Rattle.moments.specs.Figures.{five_of, listed}
+use Rattle.refusal.specs.Numbers.{Checked}
 use Rattle.refusal.specs.declared.Refusal.{Refusal}
 use Rattle.refusal.specs.declared.Refusal.TheVariants.{TooFewMoments, TooManyMoments, UnknownVariant, BadWeight}
 use Rattle.std.specs.Prelude.{Result, Ok, Err}
@@ -22,7 +23,7 @@ use Rattle.moments.specs.declared.Params.{Params}
 use Rattle.step.specs.Steps.{sigma2_squared}
 use Rattle.step.specs.declared.Step.{Step}
 use Rattle.step.specs.declared.Step.TheVariants.{Admitted, Inadmissible}
-use Rattle.walk.specs.Parts.{chosen, ended_after, fit_after, needed_for, with_fit_of}
+use Rattle.walk.specs.Parts.{chosen, ended_after, fit_after, fit_part, needed_for, with_fit_of}
 use Rattle.walk.specs.Trail.{settled, step_for, trail_from}
 use Rattle.walk.specs.Walk.{later_refusal, needed_by, squares, error_of, better, keep_of, keep_all, trail_of, stopped, walk_refusal, answered, walk_of}
 use Rattle.walk.specs.declared.M2N.{M2N}
@@ -95,9 +96,9 @@ one_less n k = omega arith
 all_less : (n k : ℕ) → k ≡ n → n - k ≡ 0
 all_less n k = omega arith
 
-pub begins : (m : M2N) (μ p : Float) → Ok tt ≡ walk_refusal m p → walk_of m μ p ≡ left_of m (record { new_moments = m.new_moments; parameters = m.parameters; error = m.error }) 0 μ p
+pub begins : (m : M2N) (f : Fit) (μ p : Float) → Ok tt ≡ walk_refusal m p → f ≡ fit_part m → walk_of m μ p ≡ left_of m f 0 μ p
 unfolding walk_of trail_of
-begins m μ p h = rw (none_less m.max_iter, sym h, zero_first (trail_of m μ p))
+begins m f μ p h e = rw (e, none_less m.max_iter, sym h, zero_first (trail_of m μ p))
 
 pub out : (step : Float → Float → Step) (ε : Float) (n : ℕ) (μ p : Float) → step μ p ≡ Inadmissible → trail_from step ε (suc n) μ p ≡ Inadmissible ∷ []
 unfolding trail_from
@@ -156,7 +157,7 @@ unfolding walk_refusal
 enough m p e = go (not (eqb m.variant 1 || eqb m.variant 2)) (ltb m.len (needed_by m.variant)) (ltb-false m.len (needed_by m.variant)) e
   where
     go : (a b : Bool) → (b ≡ false → needed_by m.variant ≤ m.len)
-        → ◌≡◌ {A = Result (Unit {0}) Refusal} (cond a (Err UnknownVariant) (cond b (Err TooFewMoments) (cond (ltb 16 m.len) (Err TooManyMoments) (cond (le nought p && lt p one) (Ok tt) (Err BadWeight))))) (Ok tt) → needed_by m.variant ≤ m.len
+        → ◌≡◌ {A = Checked} (cond a (Err UnknownVariant) (cond b (Err TooFewMoments) (cond (ltb 16 m.len) (Err TooManyMoments) (cond (le nought p && lt p one) (Ok tt) (Err BadWeight))))) (Ok tt) → needed_by m.variant ≤ m.len
     go true b f e = cc
     go false true f e = cc
     go false false f e = f refl

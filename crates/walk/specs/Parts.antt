@@ -16,6 +16,10 @@ use Rattle.walk.specs.declared.Reason.TheVariants.{Spent}
 use Rattle.walk.specs.declared.Seen.{Seen}
 use Rattle.walk.specs.declared.Turn.{Turn}
 
+-- the fit part of a state
+abbrev pub fit_part : M2N → Fit
+fit_part m = record { new_moments = m.new_moments; parameters = m.parameters; error = m.error }
+
 abbrev pub chosen : Bool → Fit → Params → Five → Float → Fit
 chosen true f r n e = record { new_moments = n; parameters = r; error = e }
 chosen false f r n e = record { new_moments = n; parameters = f.parameters; error = f.error }

@@ -1,5 +1,5 @@
 -- What a walk answers: refused, or its trail's length, the reason, and the best of what was met. Definitions only.
-use Rattle.std.specs.Prelude.{List, [], ◌∷◌, Bool, true, false, ◌&&◌, ◌||◌, not, cond, ℕ, zero, suc, min, ltb, eqb, length, get_or, Float, Result, Ok, Err}
+use Rattle.std.specs.Prelude.{List, [], ◌∷◌, Bool, true, false, ◌&&◌, ◌||◌, not, cond, ℕ, zero, suc, min, ltb, eqb, length, get_or, Float, Ok, Err}
 use Rattle.std.specs.Float.{nan, binary64}
 use Rattle.std.specs.Float.Ieee.{add, sub, mul, lt, le}
 use Rattle.float.specs.Constants.{nought, one, minus_nought}
@@ -8,7 +8,7 @@ use Rattle.moments.specs.Figures.{listed}
 pub use Rattle.moments.specs.Figures.{five_of}
 use Rattle.moments.specs.declared.Five.{Five}
 use Rattle.moments.specs.declared.Params.{Params}
-use Rattle.refusal.specs.declared.Refusal.{Refusal}
+use Rattle.refusal.specs.Numbers.{Checked}
 use Rattle.refusal.specs.declared.Refusal.TheVariants.{TooFewMoments, TooManyMoments, UnknownVariant, BadWeight}
 use Rattle.step.specs.declared.Step.{Step}
 use Rattle.step.specs.declared.Step.TheVariants.{Admitted, Inadmissible}
@@ -83,17 +83,17 @@ reason_of limit t = cond (eqb (length t) limit) Spent (stopped t)
 abbrev pub needed_by : ℕ → ℕ
 needed_by variant = cond (eqb variant 1) 4 5
 
-abbrev pub later_refusal : ℕ → ℕ → Float → Result (Unit {0}) Refusal
+abbrev pub later_refusal : ℕ → ℕ → Float → Checked
 later_refusal len needed p =
     cond (ltb len needed) (Err TooFewMoments)
     (cond (ltb 16 len) (Err TooManyMoments)
     (cond (le nought p && lt p one) (Ok tt) (Err BadWeight)))
 
 -- variant not 1 or 2; fewer than 4 moments (variant 2: 5); more than 16; weight not at least 0 and below 1
-unfoldable pub walk_refusal : M2N → Float → Result (Unit {0}) Refusal
+unfoldable pub walk_refusal : M2N → Float → Checked
 walk_refusal m p = cond (not (eqb m.variant 1 || eqb m.variant 2)) (Err UnknownVariant) (later_refusal m.len (needed_by m.variant) p)
 
-abbrev pub answered : Result (Unit {0}) Refusal → M2N → M2N → List Step → Walked
+abbrev pub answered : Checked → M2N → M2N → List Step → Walked
 answered (Ok u) m kept t = record { state = kept; outcome = Ok (record { count = length t; reason = reason_of m.max_iter t }) }
 answered (Err e) m kept t = record { state = m; outcome = Err e }
 

@@ -4,7 +4,7 @@
 
 ghost use Rattle.std.specs.Prelude.{◌≡◌, true, ◌≤◌, ◌<◌, min, Ok};
 ghost use Rattle.moments.specs.Figures.{five_of, listed};
-ghost use Rattle.walk.specs.Parts.{Turned, ended_after, fit_after, needed_for, with_fit_of};
+ghost use Rattle.walk.specs.Parts.{Turned, ended_after, fit_after, fit_part, needed_for, with_fit_of};
 ghost use Rattle.walk.specs.Reasons.{number_of};
 ghost use Rattle.walk.specs.Trail.{step_for};
 ghost use Rattle.walk.specs.Walk.{squares, walk_of, walk_refusal};
@@ -30,10 +30,24 @@ pub struct M2N {
 
 // The part of the state that a walk changes.
 #[derive(Clone, Copy)]
-struct Fit {
-    new_moments: Five,
-    parameters: Params,
-    error: f64,
+pub struct Fit {
+    pub new_moments: Five,
+    pub parameters: Params,
+    pub error: f64,
+}
+
+impl From<M2N> for Fit {
+    ghost from_gives = { λ m f. f ≡ fit_part m };
+
+    fn from(m: M2N) -> Fit
+        ensures { result ≡ fit_part m }
+    {
+        Fit {
+            new_moments: m.new_moments,
+            parameters: m.parameters,
+            error: m.error,
+        }
+    }
 }
 
 // A pair of the walk, and how many steps led to it.
@@ -237,18 +251,8 @@ fn walk(m: M2N, mu_2: f64, p_1: f64) -> Walked
     ensures { result ≡ walk_of m mu_2 p_1 }
 {
     let a = first_five(m);
-    let M2N {
-        max_iter,
-        new_moments,
-        parameters,
-        error,
-        ..
-    } = m;
-    let mut f = Fit {
-        new_moments,
-        parameters,
-        error,
-    };
+    let max_iter = m.max_iter;
+    let mut f = Fit::from(m);
     let mut mu = mu_2;
     let mut p = p_1;
     let mut count = 0;

@@ -12,7 +12,7 @@ use lib.Ieee.{Float}
 use lib.ListN.{drop, length, length-append, length-drop, length-map, length-take, take, take-append-drop}
 use lib.Seq.{drop-append-le, drop_at, length-take-le, take_at}
 use Rattle.std.specs.Prelude.{Result, Ok, Err}
-use Rattle.refusal.specs.Numbers.{unless_refused}
+use Rattle.refusal.specs.Numbers.{Checked, unless_refused}
 use Rattle.refusal.specs.declared.Refusal.{Refusal}
 use Rattle.budget.specs.Budget.{BetSizeBudget, budget_sizes}
 use Rattle.bet_sizing.specs.declared.counts.Side.TheVariants.{Long, Short}
@@ -35,7 +35,7 @@ by_room : (n a b : ℕ) (little : Bool) → ltb a n ≡ little → n ≤ 4096 �
 by_room n a b true e h is = e ∙ sym (lt-ltb b n (omega (arith, ltb-true a n e)))
 by_room n a b false e h is = e ∙ sym (le-ltb b n (omega (arith, ltb-false a n e)))
 
-refused : (r : Result (Unit {0}) Refusal) {e : Refusal} (n : ℕ) → Err e ≡ unless_refused r n → r ≡ Err e
+refused : (r : Checked) {e : Refusal} (n : ℕ) → Err e ≡ unless_refused r n → r ≡ Err e
 refused (Ok u) n h = cc
 refused (Err x) n h = cc
 

@@ -8,7 +8,7 @@ use Rattle.walk.proofs.Trails.{begins, stepped_on, fit_on, settled_on, spent, tu
 use Rattle.walk.proofs.walk.Goals as goal
 
 pub loop-count-init : goal.loop-count-init
-loop-count-init c = (omega arith, begins _ _ _ c.requires, since_now _ _ _ _ _)
+loop-count-init c = (omega arith, begins _ _ _ _ c.requires c.from-f.ensures, since_now _ _ _ _ _)
 
 pub returns-in_default : goal.returns-in_default
 returns-in_default c =
