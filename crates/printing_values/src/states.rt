@@ -4,15 +4,15 @@ ghost use Rattle.printing_values.specs.Values.{found, searched, walked};
 
 use crate::numbers;
 use grid_rows::FitResultRow;
-use protocol_lists::State;
 use replies::{Report, Search};
+use walk::Fit;
 
 pub(crate) fn put_walk(out: &mut [u8], at: usize, w: Report) -> usize
     ensures { Puts out.old out.new at result (walked w) }
 {
     let a = numbers::put_natural(out, at, w.ended.count as u64);
     let b = numbers::put_natural(out, a, u64::from(w.ended.reason));
-    let State {
+    let Fit {
         parameters: p,
         error,
         new_moments: m,
@@ -28,7 +28,7 @@ pub(crate) fn put_search(out: &mut [u8], at: usize, f: Search) -> usize
 {
     let a = put_found(out, at, f.row);
     let b = text_write::put(out, a, b" state");
-    let State {
+    let Fit {
         parameters: p,
         error,
         new_moments: m,
