@@ -4,10 +4,11 @@
 #![tactic(auto)]
 
 ghost use Rattle.std.specs.Prelude.{◌≡◌};
+ghost use Rattle.moments.specs.Figures.{params};
 ghost use Rattle.moments.specs.Mixture.{get_moments};
 ghost use Rattle.moments.specs.Refusals.{centred_moment, raw_moment, raw_out};
 ghost use Rattle.refusal.specs.Numbers.{status_of};
-ghost use Rattle.capi_moments.specs.Moments.{centred_after, moments_after, moments_number, params_of};
+ghost use Rattle.capi_moments.specs.Moments.{centred_after, moments_after, moments_number};
 
 use moments::Params;
 use refusal::Refusal;
@@ -23,7 +24,7 @@ pub extern "C" fn woddirme_get_moments(
     p_1: f64,
     moments: &mut [f64],
 ) -> u64
-    ensures { (result ≡ moments_number moments.old) × (moments.new ≡ moments_after (get_moments (params_of mu_1 mu_2 sigma_1 sigma_2 p_1)) moments.old) }
+    ensures { (result ≡ moments_number moments.old) × (moments.new ≡ moments_after (get_moments (params mu_1 mu_2 sigma_1 sigma_2 p_1)) moments.old) }
 {
     if moments.len() < 5 {
         return u64::from(Refusal::TooLittleRoom);

@@ -1,7 +1,7 @@
 -- The fit state as flat numbers, as a C program holds it. Definitions only.
 use Rattle.std.specs.Prelude.{List, ◌∷◌, ◌++◌, ℕ, length, get_or, take, drop, replicate, Float}
 use Rattle.float.specs.Constants.{nought}
-use Rattle.moments.specs.Figures.{listed, params_listed}
+use Rattle.moments.specs.Lists.{listed, params_listed}
 use Rattle.moments.specs.declared.Params.{Params}
 use Rattle.walk.specs.declared.M2N.{M2N}
 

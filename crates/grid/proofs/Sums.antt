@@ -6,7 +6,7 @@ use lib.ListN.{get_or, length, take}
 use native.Mathlib.Numerals.{add-one}
 use native.Mathlib.Omega.{arith}
 use lib.Ieee.{Float, nan, binary64, add, mul, sub, neg, of_bits}
-use Rattle.moments.specs.Figures.{listed}
+use Rattle.moments.specs.Lists.{listed}
 use Rattle.moments.specs.Mixture.{get_moments}
 use Rattle.moments.specs.declared.Five.{Five}
 use Rattle.moments.specs.declared.Params.{Params}

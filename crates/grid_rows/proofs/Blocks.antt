@@ -10,7 +10,7 @@ use lib.Ieee.{Float, nan, lt}
 use Rattle.std.proofs.Common.{Some}
 use Rattle.float.specs.Constants.{nought}
 use Rattle.float.proofs.Order.{lt_irrefl}
-use Rattle.moments.specs.Figures.{listed}
+use Rattle.moments.specs.Lists.{listed}
 use Rattle.moments.specs.declared.Five.{Five}
 use Rattle.step.specs.Steps.{sigma2_squared}
 use Rattle.walk.proofs.Stays.{same_moments, stays}

@@ -2,7 +2,7 @@
 #![tactic(auto)]
 
 ghost use Rattle.std.specs.Prelude.{◌≡◌, ◌+◌, ◌≤◌, min, length};
-ghost use Rattle.moments.specs.Figures.{listed};
+ghost use Rattle.moments.specs.Lists.{listed};
 ghost use Rattle.walk.specs.Walk.{walk_of};
 ghost use Rattle.grid_rows.specs.FitResultRow.{params_of, row_of, six};
 ghost use Rattle.grid_rows.specs.Rows.{Means, Variances, looked, mean_of, search_to};

@@ -6,7 +6,7 @@ use native.Mathlib.Omega.{arith}
 use borrow.Author.Tests.{lt-ltb, le-ltb}
 use lib.Ieee.{Float}
 use lib.ListN.{length}
-use Rattle.moments.specs.Figures.{listed}
+use Rattle.moments.specs.Lists.{listed}
 use Rattle.moments.specs.declared.Five.{Five}
 use Rattle.std.specs.Prelude.{Ok, Err}
 use Rattle.refusal.specs.Numbers.{Checked, unless_refused}

@@ -1,7 +1,7 @@
 -- What iter_4 and iter_5 answer: document 01's refusals in its order, and otherwise the step on the first moments. Definitions only.
 use Rattle.std.specs.Prelude.{cond, List, ◌++◌, ℕ, ltb, length, take, drop, replicate, Float, Result, Ok, Err}
 use Rattle.float.specs.Constants.{nought}
-use Rattle.moments.specs.Figures.{five_of}
+use Rattle.moments.specs.Lists.{five_of}
 use Rattle.moments.specs.declared.Five.{Five}
 use Rattle.refusal.specs.Numbers.{Checked, unless_refused}
 use Rattle.refusal.specs.declared.Refusal.{Refusal}

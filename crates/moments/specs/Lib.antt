@@ -1,6 +1,7 @@
 pub mod Comb
 pub mod Constants
 pub mod Figures
+pub mod Lists
 pub mod Mixture
 pub mod Orders
 pub mod Refusals

@@ -4,7 +4,7 @@
 ghost use Rattle.std.specs.Prelude.{◌≡◌, ◌≤◌, length, get_or};
 ghost use Rattle.std.specs.Float.{nan};
 ghost use Rattle.moments.specs.Comb.{choose};
-ghost use Rattle.moments.specs.Figures.{five_of, listed, params_listed, params_of};
+ghost use Rattle.moments.specs.Lists.{five_of, listed, params_listed, params_of};
 ghost use Rattle.moments.specs.Mixture.{get_moments};
 ghost use Rattle.moments.specs.Orders.{numbered, raw_sum};
 ghost use Rattle.moments.specs.Refusals.{centred_moment, centred_refusal, raw_moment, raw_out, raw_refusal};

@@ -1,6 +1,6 @@
 // The variance of the second curve.
 ghost use Rattle.std.specs.Prelude.{◌≡◌};
-ghost use Rattle.moments.specs.Figures.{listed};
+ghost use Rattle.moments.specs.Lists.{listed};
 ghost use Rattle.step.specs.Parts.{variance_at};
 ghost use Rattle.step.specs.Steps.{sigma2_squared};
 

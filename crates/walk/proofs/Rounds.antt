@@ -10,7 +10,7 @@ use lib.Dec.{T}
 use lib.Ieee.{Float, nan, inf, fin, lt, eq, is_nan, fits, binary64, to_bits, of_bits}
 use lib.Ieee.Bits.{of_bits-to_bits}
 use Rattle.float.proofs.Order.{lt_irrefl, lt_chain}
-use Rattle.moments.specs.Figures.{five_of, listed}
+use Rattle.moments.specs.Lists.{five_of, listed}
 use Rattle.moments.specs.Mixture.{get_moments}
 use Rattle.moments.specs.declared.Five.{Five}
 use Rattle.moments.specs.declared.Params.{Params}

@@ -13,7 +13,7 @@ use borrow.Author.Tests.{eq-eqb, ltb-false}
 use Rattle.float.specs.Power.{power_of}
 use Rattle.formula.specs.Formula.{eval}
 use Rattle.moments.specs.Mixture.{get_moments}
-use Rattle.moments.specs.Figures.{five_of, listed}
+use Rattle.moments.specs.Lists.{five_of, listed}
 use Rattle.refusal.specs.Numbers.{Checked}
 use Rattle.refusal.specs.declared.Refusal.{Refusal}
 use Rattle.refusal.specs.declared.Refusal.TheVariants.{TooFewMoments, TooManyMoments, UnknownVariant, BadWeight}

@@ -1,7 +1,7 @@
 -- What the parts of the walk promise each other: the fit part of the state by itself. Definitions only.
 use Rattle.std.specs.Prelude.{Bool, true, false, not, ◌||◌, cond, eqb, ◌≡◌, ℕ, ◌+◌, ◌*◌, ◌-◌, ◌≤◌, min, Float, Result, Ok, Err}
 use Rattle.std.specs.Float.Ieee.{lt}
-use Rattle.moments.specs.Figures.{listed}
+use Rattle.moments.specs.Lists.{listed}
 use Rattle.moments.specs.Mixture.{get_moments}
 use Rattle.moments.specs.declared.Five.{Five}
 use Rattle.moments.specs.declared.Params.{Params}

@@ -4,8 +4,8 @@ use Rattle.std.specs.Float.{nan, binary64}
 use Rattle.std.specs.Float.Ieee.{add, sub, mul, lt, le}
 use Rattle.float.specs.Constants.{nought, one, minus_nought}
 use Rattle.moments.specs.Mixture.{get_moments}
-use Rattle.moments.specs.Figures.{listed}
-pub use Rattle.moments.specs.Figures.{five_of}
+use Rattle.moments.specs.Lists.{listed}
+pub use Rattle.moments.specs.Lists.{five_of}
 use Rattle.moments.specs.declared.Five.{Five}
 use Rattle.moments.specs.declared.Params.{Params}
 use Rattle.refusal.specs.Numbers.{Checked}

@@ -3,7 +3,7 @@
 #![tactic(auto)]
 
 ghost use Rattle.std.specs.Prelude.{◌≡◌, true, ◌≤◌, ◌<◌, min, Ok};
-ghost use Rattle.moments.specs.Figures.{five_of, listed};
+ghost use Rattle.moments.specs.Lists.{five_of, listed};
 ghost use Rattle.walk.specs.Parts.{Turned, ended_after, fit_after, fit_part, needed_for, with_fit_of};
 ghost use Rattle.walk.specs.Reasons.{number_of};
 ghost use Rattle.walk.specs.Trail.{step_for};

@@ -2,7 +2,7 @@ use mathlib.Core.Path.{◌≡◌}
 use Prim.Native.Nat.{ℕ, ◌≤◌}
 use lib.Ieee.{nan}
 use lib.ListN.{get_or, length}
-use Rattle.moments.specs.Figures.{listed}
+use Rattle.moments.specs.Lists.{listed}
 use Rattle.grid_rows.specs.Rows.{Variances}
 use Rattle.grid_rows.proofs.variances.Given as goal
 
