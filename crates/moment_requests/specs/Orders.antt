@@ -1,6 +1,6 @@
 -- The requests of moments, each by its words and what they come to; the reply to a line, and what the lent list holds after it. Definitions only.
 use Rattle.std.specs.Prelude.{ℕ, ◌-◌, ◌^◌, List, ◌++◌, Float, Option, None, drop, take}
-use Rattle.moments.specs.Figures.{params_of}
+use Rattle.moments.specs.Lists.{params_of}
 use Rattle.moments.specs.Mixture as mixture
 use Rattle.moments.specs.Refusals as refusals
 use Rattle.text.specs.Decode.{Got}

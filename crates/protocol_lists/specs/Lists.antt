@@ -1,7 +1,7 @@
 -- Lists of words of a request, and the state, decoded. Definitions only.
 use Rattle.std.specs.Prelude.{ℕ, zero, suc, ◌-◌, ◌^◌, List, [], ◌∷◌, Float, ℤ}
 use Rattle.std.proofs.lemmas.List.Edits.{sets}
-use Rattle.moments.specs.Figures.{five_of, params_of}
+use Rattle.moments.specs.Lists.{five_of, params_of}
 use Rattle.text.specs.Decode.{Got, got, bad, ◌▷◌}
 use Rattle.protocol.specs.Words.{next_fraction, next_instant, next_natural}
 use Rattle.walk.specs.declared.Fit.{Fit}
