@@ -1,10 +1,11 @@
 -- The requests of moments, each by its words and what they come to; the reply to a line, and what the lent list holds after it. Definitions only.
 use Rattle.std.specs.Prelude.{ℕ, ◌-◌, ◌^◌, List, ◌++◌, Float, Option, None, drop, take}
+use Rattle.moments.specs.Lists.{params_of}
 use Rattle.moments.specs.Mixture as mixture
 use Rattle.moments.specs.Refusals as refusals
 use Rattle.text.specs.Decode.{Got}
 use Rattle.protocol.specs.Words.{next_fraction, next_natural}
-use Rattle.protocol_lists.specs.Lists.{fraction_list, fractions, params_among}
+use Rattle.protocol_lists.specs.Lists.{fraction_list, fractions}
 use Rattle.replies.specs.Requests.{◌>>=◌, after, named, only_or, or_refused, reply}
 use Rattle.replies.specs.declared.forms.Reply.{Reply}
 use Rattle.replies.specs.declared.forms.Reply.TheVariants.{Fraction, Listed, Moments}
@@ -12,7 +13,7 @@ use Rattle.replies.specs.declared.forms.Reply.TheVariants.{Fraction, Listed, Mom
 abbrev pub get_moments : List ℕ → Got Reply
 get_moments = do
   v ← fractions 5
-  reply (Moments (mixture.get_moments (params_among v)))
+  reply (Moments (mixture.get_moments (params_of v)))
 
 abbrev pub centered_moment : List ℕ → Got Reply
 centered_moment = do

@@ -28,15 +28,8 @@ pub fn answer(s: &[u8], xs: &mut [f64]) -> Option<Reply>
 fn get_moments(words: &[u8]) -> Option<Reply>
     ensures { result ≡ only (get_moments words.now) }
 {
-    let values = protocol::only(protocol_lists::read_next_fractions::<5>(words))?;
-    let [mu_1, mu_2, sigma_1, sigma_2, p_1] = values;
-    Some(Reply::Moments(moments::get_moments(Params {
-        mu_1,
-        mu_2,
-        sigma_1,
-        sigma_2,
-        p_1,
-    })))
+    let parameters = protocol::only(protocol_lists::read_next_fractions::<5>(words))?;
+    Some(Reply::Moments(moments::get_moments(Params::from(parameters))))
 }
 
 fn centered_moment(words: &[u8]) -> Option<Reply>

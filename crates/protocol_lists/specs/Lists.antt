@@ -1,12 +1,10 @@
 -- Lists of words of a request, and the state, decoded. Definitions only.
-use Rattle.std.specs.Prelude.{ℕ, zero, suc, ◌-◌, ◌^◌, List, [], ◌∷◌, Float, ℤ, get_or}
-use Rattle.std.specs.Float.{nan}
+use Rattle.std.specs.Prelude.{ℕ, zero, suc, ◌-◌, ◌^◌, List, [], ◌∷◌, Float, ℤ}
 use Rattle.std.proofs.lemmas.List.Edits.{sets}
-use Rattle.moments.specs.declared.Five.{Five}
-use Rattle.moments.specs.declared.Params.{Params}
+use Rattle.moments.specs.Lists.{five_of, params_of}
 use Rattle.text.specs.Decode.{Got, got, bad, ◌▷◌}
 use Rattle.protocol.specs.Words.{next_fraction, next_instant, next_natural}
-use Rattle.protocol_lists.specs.declared.State.{State}
+use Rattle.walk.specs.declared.Fit.{Fit}
 
 -- n of a form
 module _ {A : Type 0} where
@@ -59,13 +57,8 @@ fraction_list s = a_list next_fraction s
 abbrev pub instant_list : List ℕ → Got (List ℤ)
 instant_list s = a_list next_instant s
 
--- the parameters and the moments among the numbers of a state
-abbrev pub params_among : List Float → Params
-params_among v = record { mu_1 = get_or v 0 nan; mu_2 = get_or v 1 nan; sigma_1 = get_or v 2 nan; sigma_2 = get_or v 3 nan; p_1 = get_or v 4 nan }
-
-abbrev pub moments_among : List Float → Five
-moments_among v = record { m_1 = get_or v 6 nan; m_2 = get_or v 7 nan; m_3 = get_or v 8 nan; m_4 = get_or v 9 nan; m_5 = get_or v 10 nan }
-
--- a state: eleven fractions
-abbrev pub next_state : List ℕ → Got State
-next_state s = fractions 11 s ▷ (λ v t. got (record { parameters = params_among v; error = get_or v 5 nan; new_moments = moments_among v }) t)
+-- the fit of a state: its parameters, its error and its moments
+abbrev pub next_state : List ℕ → Got Fit
+next_state s =
+    fractions 5 s ▷ (λ p t. next_fraction t ▷ (λ e u. fractions 5 u ▷ (λ m v.
+    got (record { parameters = params_of p; error = e; new_moments = five_of m }) v)))

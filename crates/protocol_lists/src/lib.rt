@@ -8,6 +8,7 @@ ghost use Rattle.protocol.specs.Words.{next_fraction, next_instant};
 ghost use Rattle.protocol_lists.specs.Lists.{fractions, list_in, list_of, next_state};
 
 use moments::{Five, Params};
+use walk::Fit;
 
 // What a list holds, as its words are read.
 pub trait Entry: Copy {
@@ -50,7 +51,8 @@ pub fn read_next_list<'a, T: Entry>(s: &'a [u8], xs: &mut [T]) -> Option<(usize,
     Some((count as usize, rest))
 }
 
-// Puts x at the place i, where there is one.
+// Puts x at the place i, where there is one. Not by `get_mut`: at a type parameter its contract does not
+// say that what is put there stands in xs.
 fn keep<T: Copy>(xs: &mut [T], i: usize, x: T)
     ensures { xs.new ≡ set xs.old i x }
 {
@@ -73,48 +75,17 @@ pub fn read_next_fractions<const N: usize>(s: &[u8]) -> Option<([f64; N], &[u8])
     Some((xs, rest))
 }
 
-// A state.
-#[derive(Clone, Copy)]
-pub struct State {
-    pub parameters: Params,
-    pub error: f64,
-    pub new_moments: Five,
-}
-
-// The state after a blank, eleven fractions.
-pub fn read_next_state(s: &[u8]) -> Option<(State, &[u8])>
+// The fit of a state after a blank: its parameters, its error and its moments, eleven fractions.
+pub fn read_next_state(s: &[u8]) -> Option<(Fit, &[u8])>
     ensures { next_state s.now ≡ got_of result }
 {
-    let (values, rest) = read_next_fractions::<11>(s)?;
-    let [
-        mu_1,
-        mu_2,
-        sigma_1,
-        sigma_2,
-        p_1,
+    let (parameters, words) = read_next_fractions::<5>(s)?;
+    let (error, words) = protocol::read_next_fraction(words)?;
+    let (new_moments, words) = read_next_fractions::<5>(words)?;
+    let fit = Fit {
+        parameters: Params::from(parameters),
         error,
-        m_1,
-        m_2,
-        m_3,
-        m_4,
-        m_5,
-    ] = values;
-    let state = State {
-        parameters: Params {
-            mu_1,
-            mu_2,
-            sigma_1,
-            sigma_2,
-            p_1,
-        },
-        error,
-        new_moments: Five {
-            m_1,
-            m_2,
-            m_3,
-            m_4,
-            m_5,
-        },
+        new_moments: Five::from(new_moments),
     };
-    Some((state, rest))
+    Some((fit, words))
 }

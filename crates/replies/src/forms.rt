@@ -1,22 +1,21 @@
 // The replies.
 use grid_rows::FitResultRow;
 use moments::{Five, Params};
-use protocol_lists::State;
 use refusal::Refusal;
-use walk::Ended;
+use walk::{Ended, Fit};
 
 // How a walk ended, and the state after it.
 #[derive(Clone, Copy)]
 pub struct Report {
     pub ended: Ended,
-    pub state: State,
+    pub state: Fit,
 }
 
 // How a search ended: its row, if there is one, and the state and the epsilon after it.
 #[derive(Clone, Copy)]
 pub struct Search {
     pub row: Option<FitResultRow>,
-    pub state: State,
+    pub state: Fit,
     pub epsilon: f64,
 }
 

@@ -11,15 +11,12 @@ use Rattle.protocol.specs.Words.{words_after}
 use Rattle.replies.proofs.Asking.{by_name}
 use Rattle.replies.specs.Requests.{after, from_words}
 use Rattle.replies.specs.declared.forms.Reply.{Reply}
-use Rattle.moment_requests.specs.Orders.{orders_in}
-use Rattle.run_requests.specs.Runs.{runs_in}
+use Rattle.moment_requests.specs.Orders.{orders, orders_in}
+use Rattle.run_requests.specs.Runs.{runs, runs_in}
 use Rattle.bet_requests.specs.Spans.{spans_in}
 use Rattle.number_requests.specs.Leaves.{leaves}
-use Rattle.step_requests.specs.Steps.{steps}
-use Rattle.walk_requests.specs.Walks.{walks}
-use Rattle.search_requests.specs.Searches.{searches}
 use Rattle.price_requests.specs.Curves.{curves}
-use Rattle.requests.specs.Lines.{of_fits, of_numbers}
+use Rattle.requests.specs.Lines.{fits, left_in}
 
 module _ (kind : List ℕ → Option Reply) (s : List ℕ) (r : Reply) (replies : Some r ≡ kind s) where
   -- to a line that begins with the name w the kind has no reply
@@ -45,30 +42,22 @@ module _ (kind : List ℕ → Option Reply) (s : List ℕ) (r : Reply) (replies 
 
 -- ---- which kinds leave which lists alone
 module _ {r : Reply} (xs : List Float) (s : List ℕ) where
-  pub by_leaves : Some r ≡ leaves s → xs ≡ orders_in xs s
-  unfolding word
-  by_leaves h = no_orders leaves s r h xs (λ t. refl)
+  pub by_leaves : Some r ≡ leaves s → xs ≡ left_in xs s
+  unfolding word left_in
+  by_leaves h = no_orders leaves s r h xs (λ t. refl) ∙ no_runs leaves s r h _ (λ t. refl) ∙ no_spans leaves s r h _ (λ t. refl) (λ t. refl)
 
-  pub by_steps : Some r ≡ steps s → xs ≡ runs_in xs s
+  pub by_orders : (old : List Float) → Some r ≡ orders old s → xs ≡ spans_in (runs_in xs s) s
   unfolding word
-  by_steps h = no_runs steps s r h xs (λ t. refl)
+  by_orders old h = no_runs (orders old) s r h xs (λ t. refl) ∙ no_spans (orders old) s r h _ (λ t. refl) (λ t. refl)
 
-  pub by_walks : Some r ≡ walks s → xs ≡ runs_in xs s
-  unfolding word
-  by_walks h = no_runs walks s r h xs (λ t. refl)
+  pub by_fits : Some r ≡ fits s → xs ≡ spans_in (runs_in xs s) s
+  unfolding word fits
+  by_fits h = no_runs fits s r h xs (λ t. refl) ∙ no_spans fits s r h _ (λ t. refl) (λ t. refl)
 
-  pub by_searches : Some r ≡ searches s → xs ≡ runs_in xs s
+  pub by_runs : (n : ℕ) → Some r ≡ runs n s → xs ≡ spans_in xs s
   unfolding word
-  by_searches h = no_runs searches s r h xs (λ t. refl)
+  by_runs n h = no_spans (runs n) s r h xs (λ t. refl) (λ t. refl)
 
   pub by_curves : Some r ≡ curves s → xs ≡ spans_in xs s
   unfolding word
   by_curves h = no_spans curves s r h xs (λ t. refl) (λ t. refl)
-
-  pub by_fits : (n : ℕ) → Some r ≡ of_fits n s → xs ≡ spans_in xs s
-  unfolding word of_fits
-  by_fits n h = no_spans (of_fits n) s r h xs (λ t. refl) (λ t. refl)
-
-  pub by_numbers : (old : List Float) → Some r ≡ of_numbers old s → xs ≡ spans_in (runs_in xs s) s
-  unfolding word of_numbers
-  by_numbers old h = no_runs (of_numbers old) s r h xs (λ t. refl) ∙ no_spans (of_numbers old) s r h (runs_in xs s) (λ t. refl) (λ t. refl)

@@ -16,18 +16,13 @@ infixr 5 ◌or_else◌
 abbrev pub ◌or_else◌ : Option Reply → Option Reply → Option Reply
 r or_else other = option_or r other
 
--- the reply to the line s, where the lent list is xs or has n places: that of the first kind that has one
-unfoldable pub of_numbers : List Float → List ℕ → Option Reply
-of_numbers xs s = leaves s or_else orders xs s
+unfoldable pub fits : List ℕ → Option Reply
+fits s = steps s or_else walks s or_else searches s
 
-unfoldable pub of_fits : ℕ → List ℕ → Option Reply
-of_fits n s = steps s or_else walks s or_else searches s or_else runs n s
-
-unfoldable pub of_bets : ℕ → List ℕ → Option Reply
-of_bets n s = curves s or_else spans n s
-
+-- the reply to the line s, where the lent list is xs: that of the first kind that has one
 unfoldable pub reply_to : List Float → List ℕ → Option Reply
-reply_to xs s = of_numbers xs s or_else of_fits (length xs) s or_else of_bets (length xs) s
+reply_to xs s =
+    leaves s or_else orders xs s or_else fits s or_else runs (length xs) s or_else curves s or_else spans (length xs) s
 
 -- the lent list after it: three kinds leave answers there, and each leaves the list as it was where the line has another's name
 unfoldable pub left_in : List Float → List ℕ → List Float

@@ -14,10 +14,7 @@ pub fn answer(s: &[u8], xs: &mut [f64]) -> Option<Reply>
     ensures { (result ≡ runs (length xs.old) s.now)
         × (xs.new ≡ runs_in xs.old s.now) }
 {
-    if let Some(words) = protocol::words_after(s, b"mp_fit") {
-        return mp_fit(words, xs);
-    }
-    None
+    mp_fit(protocol::words_after(s, b"mp_fit")?, xs)
 }
 
 #[tactic(auto, unfolding(crate::specs::Runs::asked))]

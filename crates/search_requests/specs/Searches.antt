@@ -12,8 +12,9 @@ use Rattle.replies.specs.Requests.{◌>>=◌, named, or_refused, reply}
 use Rattle.replies.specs.declared.forms.Reply.{Reply}
 use Rattle.replies.specs.declared.forms.Reply.TheVariants.{Searched}
 use Rattle.replies.specs.declared.forms.Search.{Search}
+use Rattle.walk.specs.Parts.{fit_part}
 use Rattle.walk.specs.declared.M2N.{M2N}
-use Rattle.walk_requests.specs.Walks.{state_from, state_in}
+use Rattle.walk_requests.specs.Walks.{state_from}
 
 -- the epsilon for this search: `-` for the state's own
 abbrev pub own : List ℕ → Got (Option Float)
@@ -37,7 +38,7 @@ next_given s = either (own s) (overriding s)
 
 -- the row, if there is one, and the state after the search
 abbrev pub ended_search : M2N → Option FitResultRow → Search
-ended_search m row = record { row = row; state = state_in m; epsilon = m.epsilon }
+ended_search m row = record { row = row; state = fit_part m; epsilon = m.epsilon }
 
 -- how a search ended, with the state after it, as a reply
 abbrev pub searched_reply : Fitted → Reply

@@ -7,15 +7,12 @@ ghost use Rattle.search_requests.specs.Searches.{next_given, searched_reply, sea
 
 use grid::Fitted;
 use replies::{Reply, Search};
-use walk::M2N;
+use walk::{Fit, M2N};
 
 pub fn answer(s: &[u8]) -> Option<Reply>
     ensures { result ≡ searches s.now }
 {
-    if let Some(words) = protocol::words_after(s, b"single_fit") {
-        return single_fit(words);
-    }
-    None
+    single_fit(protocol::words_after(s, b"single_fit")?)
 }
 
 fn single_fit(words: &[u8]) -> Option<Reply>
@@ -64,7 +61,7 @@ fn reply(f: Fitted) -> Reply
     match f.outcome {
         Ok(row) => Reply::Searched(Search {
             row,
-            state: walk_requests::walks::state_in(f.state),
+            state: Fit::from(f.state),
             epsilon: f.state.epsilon,
         }),
         Err(refusal) => Reply::Refused(refusal),

@@ -4,24 +4,21 @@ use Rattle.float.specs.Constants.{nought}
 use Rattle.text.specs.Decode.{Got}
 use Rattle.protocol.specs.Words.{next_fraction, next_natural}
 use Rattle.protocol_lists.specs.Lists.{fraction_list, in_front, next_state}
-use Rattle.protocol_lists.specs.declared.State.{State}
+use Rattle.walk.specs.Parts.{fit_part}
 use Rattle.walk.specs.Walk.{walk_of}
+use Rattle.walk.specs.declared.Fit.{Fit}
 use Rattle.walk.specs.declared.M2N.{M2N}
 use Rattle.walk.specs.declared.Walked as walked
 use Rattle.replies.specs.Requests.{◌>>=◌, named, or_refused, reply}
 use Rattle.replies.specs.declared.forms.Reply.{Reply}
 use Rattle.replies.specs.declared.forms.Reply.TheVariants.{Walked}
 
--- what a STATE says of a state
-abbrev pub state_in : M2N → State
-state_in m = record { parameters = m.parameters; error = m.error; new_moments = m.new_moments }
-
 -- how a walk ended, with the state after it, as a reply
 abbrev pub walked_reply : walked.Walked → Reply
-walked_reply w = or_refused (λ ended. Walked (record { ended = ended; state = state_in w.state })) w.outcome
+walked_reply w = or_refused (λ ended. Walked (record { ended = ended; state = fit_part w.state })) w.outcome
 
 -- the state that a request gives: 16 moments of which n were given, epsilon, factor, how many runs, the step limit, and what a STATE gives
-abbrev pub state_from : ℕ → List Float → ℕ → Float → Float → ℕ → ℕ → State → M2N
+abbrev pub state_from : ℕ → List Float → ℕ → Float → Float → ℕ → ℕ → Fit → M2N
 state_from variant moments n epsilon factor runs limit state = record {
   moments = moments;
   len = n;

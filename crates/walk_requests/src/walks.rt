@@ -1,19 +1,15 @@
 // The request of a walk. A list longer than 16 is read, and refused by the library.
 ghost use Rattle.std.specs.Prelude.{◌≡◌};
 ghost use Rattle.protocol.specs.Words.{only};
-ghost use Rattle.walk_requests.specs.Walks.{state_in, walk, walked_reply, walks};
+ghost use Rattle.walk_requests.specs.Walks.{walk, walked_reply, walks};
 
-use protocol_lists::State;
 use replies::{Reply, Report};
-use walk::{M2N, Walked};
+use walk::{Fit, M2N, Walked};
 
 pub fn answer(s: &[u8]) -> Option<Reply>
     ensures { result ≡ walks s.now }
 {
-    if let Some(words) = protocol::words_after(s, b"walk") {
-        return walk(words);
-    }
-    None
+    walk(protocol::words_after(s, b"walk")?)
 }
 
 fn walk(words: &[u8]) -> Option<Reply>
@@ -48,19 +44,8 @@ fn reply(walked: Walked) -> Reply
     match walked.outcome {
         Ok(ended) => Reply::Walked(Report {
             ended,
-            state: state_in(walked.state),
+            state: Fit::from(walked.state),
         }),
         Err(refusal) => Reply::Refused(refusal),
-    }
-}
-
-// What a STATE of docs/REQUESTS.md holds of a state.
-pub fn state_in(m: M2N) -> State
-    ensures { result ≡ state_in m }
-{
-    State {
-        parameters: m.parameters,
-        error: m.error,
-        new_moments: m.new_moments,
     }
 }
