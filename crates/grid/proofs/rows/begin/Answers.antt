@@ -2,7 +2,7 @@
 use lib.Ieee.{of_bits}
 use native.Mathlib.Omega.{arith}
 use Rattle.grid.specs.Rows.{begun}
-use Rattle.grid.proofs.Sums.{first_squares}
+use Rattle.walk.proofs.Sums.{first_squares}
 use Rattle.grid.proofs.rows.begin.Goals as goal
 
 pub returns : goal.returns
