@@ -15,14 +15,14 @@ fn override_of(l: &[f64]) -> Option<f64>
 }
 
 // Without a row the lent numbers stay as they were.
-#[tactic(auto, using(crate::proofs::Fronts::front_whole))]
+#[tactic(auto, using(crate::proofs::Fronts::front_row))]
 fn leave_row(best: Option<FitResultRow>, row: &mut [f64]) -> usize
     requires { 6 ≤ length row.old }
     ensures { (result ≡ how_many best) × (row.new ≡ with_best row.old best) }
 {
     match best {
         Some(r) => {
-            row[..6].copy_from_slice(&<[f64; 6]>::from(r));
+            r.put_at(row, 0);
             1
         }
         None => 0,

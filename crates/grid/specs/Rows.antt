@@ -1,12 +1,12 @@
 -- Where a search starts, and what is moved back to the mean after it. Definitions only.
-use Rattle.std.specs.Prelude.{List, ◌∷◌, Bool, ◌&&◌, cond, ℕ, zero, suc, get_or, map, replicate, Float, Option, Some, None}
-use Rattle.std.specs.List.{fold}
+use Rattle.std.specs.Prelude.{◌∷◌, Bool, ◌&&◌, cond, get_or, replicate, Float, Option, Some, None}
 use Rattle.std.specs.Float.{nan, binary64}
-use Rattle.std.specs.Float.Ieee.{add, mul, neg, eq, of_bits}
-use Rattle.float.specs.Constants.{nought, minus_nought}
+use Rattle.std.specs.Float.Ieee.{add, eq}
+use Rattle.float.specs.Constants.{nought}
 use Rattle.moments.specs.Mixture.{get_moments}
 use Rattle.moments.specs.Orders.{centred_sum}
 use Rattle.moments.specs.declared.Params.{Params}
+use Rattle.walk.specs.Squares.{sum_of_squares}
 use Rattle.walk.specs.Walk.{error_of}
 use Rattle.walk.specs.declared.M2N.{M2N}
 use Rattle.grid_rows.specs.FitResultRow.{params_in, row_of}
@@ -30,15 +30,6 @@ with_best m epsilon p error = record {
 -- ---- where a search starts
 abbrev pub zeros : Params
 zeros = record { mu_1 = nought; mu_2 = nought; sigma_1 = nought; sigma_2 = nought; p_1 = nought }
-
--- the sum of the first k squares, from -0
-unfoldable pub sum_of_squares : List Float → ℕ → Float
-sum_of_squares l zero = minus_nought
-sum_of_squares l (suc k) = add binary64 (sum_of_squares l k) (mul binary64 (get_or l k nan) (get_or l k nan))
-
--- the squares of a list, as Rust's sum() of them
-abbrev pub squares_summed : List Float → Float
-squares_summed l = fold (λ a x. add binary64 a x) (neg (of_bits binary64 0)) (map (λ x. mul binary64 x x) l)
 
 -- the tolerance in force is stored, nothing is kept, and the error is the sum of all given squares
 unfoldable pub begun : M2N → Float → M2N

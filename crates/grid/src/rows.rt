@@ -3,18 +3,11 @@ ghost use Rattle.std.specs.Prelude.{◌≡◌, ◌≤◌};
 ghost use Rattle.moments.specs.Mixture.{get_moments};
 ghost use Rattle.moments.specs.Orders.{centred_sum};
 ghost use Rattle.walk.specs.Walk.{error_of};
-ghost use Rattle.grid.specs.Rows.{all_zero, begun, centred_state, moved, moved_best, moved_state, squares_summed};
+ghost use Rattle.grid.specs.Rows.{all_zero, begun, centred_state, moved, moved_best, moved_state};
 
 use crate::FitResultRow;
 use moments::Params;
 use walk::M2N;
-
-// The squares, summed as Rust's sum() does, from -0.
-fn sum_of_squares(numbers: &[f64]) -> f64
-    ensures { result ≡ squares_summed numbers.now }
-{
-    numbers.iter().map(|x| *x * *x).sum()
-}
 
 // The state from which a search starts: nothing is kept.
 pub(crate) fn begin(m: M2N, epsilon: f64) -> M2N
@@ -24,7 +17,7 @@ pub(crate) fn begin(m: M2N, epsilon: f64) -> M2N
     M2N {
         epsilon,
         parameters: Params::default(),
-        error: sum_of_squares(&m.moments[..m.len]),
+        error: walk::sum_of_squares(&m.moments[..m.len]),
         ..m
     }
 }
@@ -68,19 +61,11 @@ fn moved_back(m: M2N, p: Params) -> Params
 }
 
 // The error of parameters, against at most five of the state's moments.
-#[tactic(auto, using(crate::proofs::Sums::error_is))]
+#[tactic(auto, using(walk::proofs::Sums::error_is))]
 fn moment_error(m: M2N, p: Params) -> f64
     ensures { result ≡ error_of m (get_moments p) }
 {
-    let fitted = moments::get_moments(p);
-    let differences = [
-        m.moments[0] - fitted.m_1,
-        m.moments[1] - fitted.m_2,
-        m.moments[2] - fitted.m_3,
-        m.moments[3] - fitted.m_4,
-        m.moments[4] - fitted.m_5,
-    ];
-    sum_of_squares(&differences[..usize::min(m.len, 5)])
+    walk::error_of(m.len, walk::first_five(m), moments::get_moments(p))
 }
 
 // Five kept zeros: nothing was kept.

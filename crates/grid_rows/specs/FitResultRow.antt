@@ -25,9 +25,10 @@ row_at numbers i =
     let at = 6 * i in
     record { mu_1 = get_or numbers at nan; mu_2 = get_or numbers (at + 1) nan; sigma_1 = get_or numbers (at + 2) nan; sigma_2 = get_or numbers (at + 3) nan; p_1 = get_or numbers (at + 4) nan; error = get_or numbers (at + 5) nan }
 
--- flat numbers with another row i, and where there is no room for it the same
+-- flat numbers with another row i, as far as they go
 abbrev pub with_row_at : List Float → ℕ → FitResultRow → List Float
 with_row_at numbers i r = sets numbers (6 * i) (six r)
 
+-- where there is room for all six, and else the numbers as they are
 abbrev pub with_row_in : List Float → ℕ → FitResultRow → List Float
 with_row_in numbers i r = cond (ltb i (length numbers / 6)) (with_row_at numbers i r) numbers

@@ -141,8 +141,8 @@ fn means(m: M2N, deviation: f64, from: usize) -> [f64; 256]
     u
 }
 
-// The sigma_2^2 of the first step from each of these means, with a weight each, as far as there are weights.
-// Nothing branches here, and the means are there already, so that the processor has many rows in hand.
+// The sigma_2^2 of the first step from each of these means, as far as there are weights. Nothing branches
+// here, and the means are there already, so that the processor has many rows in hand.
 fn variances(a: Five, means: [f64; 256], weights: &[f64]) -> [f64; 256]
     ensures { Variances (listed a) means weights.now result }
 {
@@ -160,8 +160,8 @@ fn walk_row(s: Search, mu_2: f64, p_1: f64) -> Search
     look(s, walk::iterate_from(s.state, mu_2, p_1).state)
 }
 
-// The rows after the first `from`, 256 or what there are. Where sigma_2^2 is below zero the walk ends at
-// its first step and leaves all as it was: so end most rows, and they are passed over.
+// The rows after the first `from`, 256 or as many as there are. Where sigma_2^2 is below zero the walk ends
+// at its first step and leaves all as it was: so end most rows, and they are passed over.
 fn walk_block(s: Search, m: M2N, deviation: f64, weights: &[f64], from: usize) -> Search
     requires { (s ≡ search_to m deviation weights.now from) × (from ≤ length weights.now) × (from ≤ 131072) }
     ensures { result ≡ search_to m deviation weights.now (min (from + 256) (length weights.now)) }

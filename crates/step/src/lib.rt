@@ -12,7 +12,8 @@ use curves::Curves;
 use moments::{Five, Params};
 pub use variance::sigma_2_squared;
 
-// What a step answers: the five numbers, or that it is inadmissible.
+// What a step answers: the five numbers, or that it is inadmissible. It is no Option, since the specification
+// names the two ends so, and a walk's `let Step::Admitted(..) = .. else`.
 #[derive(Clone, Copy)]
 pub enum Step {
     Admitted(Params),

@@ -2,7 +2,7 @@
 use mathlib.Core.Path.{◌≡◌, refl, sym, ap, ◌∙◌}
 use mathlib.Core.List.{List, [], ◌∷◌}
 use mathlib.Core.Bool.{Bool, true, false, not, ◌||◌, ◌&&◌, cond}
-use Prim.Native.Nat.{ℕ, zero, suc, ◌+◌, ◌-◌, ◌≤◌, ◌<◌, min}
+use Prim.Native.Nat.{ℕ, suc, ◌+◌, ◌-◌, ◌≤◌, ◌<◌, min}
 use lib.ListN.{length}
 use lib.Dec.{eqb, ltb}
 use lib.Ieee.{Float, binary64, sub, lt, le}
@@ -25,10 +25,11 @@ use Rattle.moments.specs.declared.Params.{Params}
 use Rattle.step.specs.Steps.{sigma2_squared}
 use Rattle.step.specs.declared.Step.{Step}
 use Rattle.step.specs.declared.Step.TheVariants.{Admitted, Inadmissible}
+use Rattle.walk.proofs.Sums.{error_is}
 use Rattle.walk.specs.Parts.{chosen, ended_after, fit_after, fit_part, variant_unless, walk_variant, with_fit_of}
 use Rattle.walk.specs.Trail.{settled, step_for, trail_from}
 use Rattle.walk.specs.Variants.{variant_number}
-use Rattle.walk.specs.Walk.{later_refusal, needed_by, squares, error_of, better, keep_of, keep_all, trail_of, stopped, walk_refusal, answered, walk_of}
+use Rattle.walk.specs.Walk.{later_refusal, needed_by, squares, better, keep_of, keep_all, trail_of, stopped, walk_refusal, answered, walk_of}
 use Rattle.walk.specs.declared.M2N.{M2N}
 use Rattle.walk.specs.declared.Fit.{Fit}
 use Rattle.walk.specs.declared.Ended.{Ended}
@@ -37,13 +38,6 @@ use Rattle.walk.specs.declared.Reason.TheVariants.{Spent, Settled}
 use Rattle.walk.specs.declared.Variant.{Variant}
 use Rattle.walk.specs.declared.Variant.TheVariants.{FourMoments, FiveMoments}
 use Rattle.walk.specs.declared.Walked.{Walked}
-
--- ---- the error reads at most five moments
-pub four_of : (n : ℕ) → 4 ≤ n → n < 5 → min n 5 ≡ 4
-four_of n = omega arith
-
-pub five_of_lem : (n : ℕ) → 5 ≤ n → min n 5 ≡ 5
-five_of_lem n = omega arith
 
 -- the entries of a trail counted one after another
 abbrev pub counted : ℕ → List Step → ℕ
@@ -66,30 +60,15 @@ abbrev pub left_of : M2N → Fit → ℕ → Float → Float → Walked
 left_of m f k μ p = ends_from (with_fit_of m f) k (trail_from (step_for m.variant m.moments) m.epsilon (m.max_iter - k) μ p)
 
 -- ---- one entry
-at_most_five : (n : ℕ) → min n 5 ≤ 5
-at_most_five n = omega arith
-
-squares_five : (l : List Float) (n : Five) (c : ℕ) → c ≤ 5 → squares l (listed n) c ≡ squares (listed (five_of l)) (listed n) c
-unfolding squares
-squares_five l n zero h = refl
-squares_five l n (suc zero) h = refl
-squares_five l n (suc (suc zero)) h = refl
-squares_five l n (suc (suc (suc zero))) h = refl
-squares_five l n (suc (suc (suc (suc zero)))) h = refl
-squares_five l n (suc (suc (suc (suc (suc zero))))) h = refl
-squares_five l n (suc (suc (suc (suc (suc (suc c)))))) h = absurd (omega (arith, h))
-
 choices : (b : Bool) (m : M2N) (f : Fit) (r : Params) (n : Five) (e : Float) → better b (with_fit_of m f) r n e ≡ with_fit_of m (chosen b f r n e)
 choices true m f r n e = refl
 choices false m f r n e = refl
 
 keeps : (m : M2N) (f : Fit) (r : Params) → keep_of (with_fit_of m f) (Admitted r) ≡ with_fit_of m (fit_after m.len (five_of m.moments) f r)
-unfolding keep_of error_of fit_after
-keeps m f r = rw (squares_five m.moments (get_moments r) (min m.len 5) (at_most_five m.len), choices (lt (squares (listed (five_of m.moments)) (listed (get_moments r)) (min m.len 5)) f.error) m f r (get_moments r) (squares (listed (five_of m.moments)) (listed (get_moments r)) (min m.len 5)))
-
-pub chooses : (len : ℕ) (a : Five) (f : Fit) (r : Params) (n : Five) (e : Float) (b : Bool) → n ≡ get_moments r → e ≡ squares (listed a) (listed n) (min len 5) → lt e f.error ≡ b → chosen b f r n e ≡ fit_after len a f r
-unfolding fit_after
-chooses len a f r n e b hn he hb = rw (sym hn, sym he, hb)
+unfolding keep_of fit_after
+keeps m f r =
+    let e = squares (listed (five_of m.moments)) (listed (get_moments r)) (min m.len 5) in
+    rw (error_is (with_fit_of m f) (get_moments r), choices (lt e f.error) m f r (get_moments r) e)
 
 -- ---- the ways on
 none_less : (n : ℕ) → n - 0 ≡ n
@@ -163,13 +142,6 @@ enough m p e = go (not (eqb m.variant 1 || eqb m.variant 2)) (ltb m.len (needed_
     go true b f e = cc
     go false true f e = cc
     go false false f e = f refl
-
-at_least_four : (b : Bool) (n : ℕ) → cond b 4 5 ≤ n → 4 ≤ n
-at_least_four true n h = h
-at_least_four false n h = omega (arith, h)
-
-pub four_given : (m : M2N) (p : Float) → Ok tt ≡ walk_refusal m p → 4 ≤ m.len
-four_given m p h = at_least_four (eqb m.variant 1) m.len (enough m p (sym h))
 
 -- ---- the check of a walk
 -- the refusals by the two tests of the variant

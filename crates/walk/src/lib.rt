@@ -6,6 +6,7 @@ ghost use Rattle.std.specs.Prelude.{◌≡◌, true, ◌≤◌, ◌<◌, min, Ok
 ghost use Rattle.moments.specs.Lists.{five_of, listed};
 ghost use Rattle.walk.specs.Parts.{Turned, ended_after, fit_after, fit_part, walk_variant, with_fit_of};
 ghost use Rattle.walk.specs.Reasons.{number_of};
+ghost use Rattle.walk.specs.Squares.{squares_summed};
 ghost use Rattle.walk.specs.Trail.{step_for};
 ghost use Rattle.walk.specs.Variants.{variant_number, variant_of};
 ghost use Rattle.walk.specs.Walk.{needed_by, squares, walk_of, walk_refusal};
@@ -14,7 +15,8 @@ use moments::{Five, Params};
 use refusal::Refusal;
 use step::Step;
 
-// The fit state: the target moments (the first `len` of 16), the settings, and the best fit so far.
+// The fit state: the target moments (the first `len` of 16), the settings, and the best fit so far. The
+// moments are an array and a length, since a state is a value of one size, with no heap, and is lent to C.
 #[derive(Clone, Copy)]
 pub struct M2N {
     pub moments: [f64; 16],
@@ -29,8 +31,8 @@ pub struct M2N {
     pub error: f64,
 }
 
-// Which step a walk takes; each is its number. A state has a number, since it may hold any, which a walk
-// refuses.
+// Which step a walk takes; each is its number. A state has a `usize`, since it may hold any number, and a
+// walk refuses the others.
 #[derive(Clone, Copy, Debug, PartialEq, Eq)]
 pub enum Variant {
     FourMoments = 1,
@@ -158,26 +160,31 @@ pub fn first_five(m: M2N) -> Five
     }
 }
 
-// The squares of the differences, summed as Rust's sum() does, from -0.
-fn error_of(len: usize, a: Five, b: Five) -> f64
-    requires { 4 ≤ len }
+// The squares, summed as Rust's sum() does, from -0.
+pub fn sum_of_squares(numbers: &[f64]) -> f64
+    ensures { result ≡ squares_summed numbers.now }
+{
+    numbers.iter().map(|x| *x * *x).sum()
+}
+
+// The step error: the squares of the first `len` differences, and of no more than there are.
+#[tactic(auto, using(crate::proofs::Sums::squares_are))]
+pub fn error_of(len: usize, a: Five, b: Five) -> f64
     ensures { result ≡ squares (listed a) (listed b) (min len 5) }
 {
-    let d_1 = a.m_1 - b.m_1;
-    let d_2 = a.m_2 - b.m_2;
-    let d_3 = a.m_3 - b.m_3;
-    let d_4 = a.m_4 - b.m_4;
-    let e = -0.0 + d_1 * d_1 + d_2 * d_2 + d_3 * d_3 + d_4 * d_4;
-    if len < 5 {
-        return e;
-    }
-    let d_5 = a.m_5 - b.m_5;
-    e + d_5 * d_5
+    let differences = [
+        a.m_1 - b.m_1,
+        a.m_2 - b.m_2,
+        a.m_3 - b.m_3,
+        a.m_4 - b.m_4,
+        a.m_5 - b.m_5,
+    ];
+    sum_of_squares(&differences[..len.min(5)])
 }
 
 // An admitted iterate: its moments are stored, and it is kept where its error is strictly smaller.
+#[tactic(auto, unfolding(crate::specs::Parts::fit_after))]
 fn fit_after(len: usize, a: Five, f: Fit, r: Params) -> Fit
-    requires { 4 ≤ len }
     ensures { result ≡ fit_after len a f r }
 {
     let new_moments = moments::get_moments(r);
@@ -238,6 +245,7 @@ fn ended_after(count: usize, max_iter: usize, stopped: Reason) -> Ended
 }
 
 // Whether two numbers are one, bit for bit; a NaN is never.
+#[tactic(auto, using(crate::proofs::Rounds::no_nan, crate::proofs::Rounds::one_float))]
 fn same(x: f64, y: f64) -> bool
     ensures { result ≡ true → x ≡ y }
 {

@@ -4,7 +4,7 @@ use Prim.Native.Nat.{◌<◌}
 use mathlib.Core.Bool.{true, false}
 use native.Mathlib.Omega.{arith}
 use Rattle.walk.proofs.Rounds.{since_now, since_on, turns}
-use Rattle.walk.proofs.Trails.{begins, stepped_on, fit_on, settled_on, spent, turned_away, settles, goes_on, four_given}
+use Rattle.walk.proofs.Trails.{begins, stepped_on, fit_on, settled_on, spent, turned_away, settles, goes_on}
 use Rattle.walk.proofs.walk.Goals as goal
 
 pub loop-count-init : goal.loop-count-init
@@ -16,9 +16,6 @@ returns-in_default c =
     let h : c.loop-count.count < m.max_iter = omega arith in
     turned_away m _ _ _ _ _ _ h (stepped_on m _ _ _ _ _ _ c.requires.0 c.first_five-a.ensures c.step-s.ensures c.in_default.is) c.with_fit.ensures c.ended_after.ensures
     ∙ sym c.loop-count.invariant.1
-
-pub fit_after-f-requires : goal.fit_after-f-requires
-fit_after-f-requires c = four_given _ _ c.requires.1
 
 pub returns-then-abs-m : goal.returns-then-abs-m
 returns-then-abs-m c =

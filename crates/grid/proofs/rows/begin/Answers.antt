@@ -2,8 +2,9 @@
 use mathlib.Core.Path.{◌≡◌}
 use lib.Ieee.{of_bits}
 use native.Mathlib.Omega.{arith}
+use Rattle.walk.proofs.Sums.{first_squares}
 use Rattle.grid.specs.Rows.{begun, zeros}
-use Rattle.grid.proofs.Sums.{all_of, first_squares}
+use Rattle.grid.proofs.Known.{all_of}
 use Rattle.grid.proofs.rows.begin.Goals as goal
 
 pub returns : goal.returns

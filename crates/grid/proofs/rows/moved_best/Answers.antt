@@ -1,4 +1,4 @@
-use Rattle.grid.proofs.Sums.{moved_row}
+use Rattle.grid.proofs.Searching.{moved_row}
 use Rattle.grid.proofs.rows.moved_best.Goals as goal
 
 pub returns : goal.returns
