@@ -1,5 +1,5 @@
 -- What the functions that put rows promise each other. Definitions only.
-use Rattle.std.specs.Prelude.{ℕ, ◌*◌, ◌≤◌, ◌≡◌, List, ℤ, Float, length}
+use Rattle.std.specs.Prelude.{ℕ, ◌≤◌, ◌≡◌, List, ℤ, Float, length}
 use Rattle.text.specs.Print.{Fronts}
 use Rattle.text_write.specs.declared.Text.{Text}
 

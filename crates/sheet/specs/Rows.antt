@@ -1,5 +1,5 @@
 -- The rows of spans: for each, in order, the counts live at its start and the budget size. Definitions only.
-use Rattle.std.specs.Prelude.{ℕ, true, false, List, ℤ, Float, [], ◌∷◌, ◌++◌}
+use Rattle.std.specs.Prelude.{ℕ, List, ℤ, Float}
 use Rattle.std.specs.List.{flat_map}
 use Rattle.std.specs.Float.{binary64}
 use Rattle.std.specs.Float.Ieee.{to_bits}

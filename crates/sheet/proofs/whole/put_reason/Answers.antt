@@ -1,7 +1,5 @@
 -- The number alone, or the number, a blank and the line one after another (`appended_three`).
 use native.Mathlib.Omega.{arith}
-use Rattle.text.specs.Bytes.{bytes}
-use Rattle.text.specs.Print.{decimal}
 use Rattle.text.proofs.Digits.{decimal_short}
 use Rattle.sheet.specs.CountSheet.{reason}
 use Rattle.sheet.proofs.Refusing.{appended_three}

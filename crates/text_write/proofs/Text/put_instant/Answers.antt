@@ -12,7 +12,6 @@ use Rattle.text.specs.Print.{Placed, decimal}
 use Rattle.text.proofs.Digits.{decimal_short}
 use Rattle.text.proofs.Placing.{placed_then, fronts}
 use Rattle.text.proofs.Signs.{shown_above, shown_below}
-use Rattle.text_write.specs.Appending.{Appended}
 use Rattle.text_write.proofs.Text.put_instant.Goals as goal
 
 -- a minus and a number's digits, at the front
