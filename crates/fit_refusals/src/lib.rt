@@ -3,10 +3,10 @@
 
 ghost use Rattle.std.specs.Prelude.{◌≡◌, ◌≤◌};
 ghost use Rattle.std.specs.List.{list_all};
-ghost use Rattle.fit_refusals.specs.Refusals.{grid_refusal, is_spacing, is_variant, is_weight, rows_of, rows_refusal, runs_refusal, weights_refusal};
+ghost use Rattle.fit_refusals.specs.Refusals.{grid_refusal, is_spacing, is_weight, rows_of, rows_refusal, runs_refusal, weights_refusal};
 
 use refusal::Refusal;
-use walk::M2N;
+use walk::{M2N, Variant};
 
 // Rows are 1 to upper - 1, upper being the larger of 1 / epsilon and 1, cut.
 #[tactic(auto, using(crate::proofs::Known::cut_upper), unfolding(crate::specs::Refusals::rows_of))]
@@ -52,12 +52,6 @@ fn check_rows(weights: &[f64], runs: usize, rows: usize) -> Result<(), Refusal>
     check_weights(weights, runs * rows)
 }
 
-fn is_variant(variant: usize) -> bool
-    ensures { result ≡ is_variant variant }
-{
-    variant == 1 || variant == 2
-}
-
 // Finite and above 0.
 fn is_spacing(epsilon: f64) -> bool
     ensures { result ≡ is_spacing epsilon }
@@ -77,9 +71,7 @@ fn check_searches(m: M2N, epsilon: f64, runs: usize, weights: &[f64]) -> Result<
     if 16 < m.len {
         return Err(Refusal::TooManyMoments);
     }
-    if !is_variant(m.variant) {
-        return Err(Refusal::UnknownVariant);
-    }
+    Variant::try_from(m.variant)?;
     if !is_spacing(epsilon) {
         return Err(Refusal::BadEpsilon);
     }

@@ -3,7 +3,7 @@ ghost use Rattle.std.specs.Prelude.{◌≡◌};
 ghost use Rattle.grid.specs.Search.{Served, centred_fit, deviation_of, fit_of, is_centred, plain_fit};
 
 use crate::{FitResultRow, rows};
-use walk::M2N;
+use walk::{M2N, Variant};
 
 // The state after a search, and its row.
 #[derive(Clone, Copy)]
@@ -50,7 +50,7 @@ fn centred_fit_loop(m: M2N, epsilon: f64, weights: &[f64]) -> Searched
 fn is_centred(m: M2N) -> bool
     ensures { result ≡ is_centred m }
 {
-    m.variant == 2 && m.moments[0] != 0.0
+    Variant::try_from(m.variant) == Ok(Variant::FiveMoments) && m.moments[0] != 0.0
 }
 
 // A search that is not refused.

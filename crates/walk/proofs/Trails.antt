@@ -9,28 +9,33 @@ use lib.Ieee.{Float, binary64, sub, lt, le}
 use Rattle.float.specs.Constants.{nought, one}
 use Rattle.float.specs.Leaves.{abs_of}
 use native.Mathlib.Omega.{arith}
-use borrow.Author.Tests.{eq-eqb, ltb-false}
+use borrow.Author.Tests.{eq-eqb, eqb-true, ltb-false}
 use Rattle.float.specs.Power.{power_of}
 use Rattle.formula.specs.Formula.{eval}
 use Rattle.moments.specs.Mixture.{get_moments}
 use Rattle.moments.specs.Lists.{five_of, listed}
+use Rattle.refusal.proofs.Refusing as refusing
+use Rattle.refusal.proofs.Refusing.{accepted}
 use Rattle.refusal.specs.Numbers.{Checked}
 use Rattle.refusal.specs.declared.Refusal.{Refusal}
 use Rattle.refusal.specs.declared.Refusal.TheVariants.{TooFewMoments, TooManyMoments, UnknownVariant, BadWeight}
-use Rattle.std.specs.Prelude.{Result, Ok, Err}
+use Rattle.std.specs.Prelude.{Ok, Err}
 use Rattle.moments.specs.declared.Five.{Five}
 use Rattle.moments.specs.declared.Params.{Params}
 use Rattle.step.specs.Steps.{sigma2_squared}
 use Rattle.step.specs.declared.Step.{Step}
 use Rattle.step.specs.declared.Step.TheVariants.{Admitted, Inadmissible}
-use Rattle.walk.specs.Parts.{chosen, ended_after, fit_after, fit_part, needed_for, with_fit_of}
+use Rattle.walk.specs.Parts.{chosen, ended_after, fit_after, fit_part, variant_unless, walk_variant, with_fit_of}
 use Rattle.walk.specs.Trail.{settled, step_for, trail_from}
+use Rattle.walk.specs.Variants.{variant_number}
 use Rattle.walk.specs.Walk.{later_refusal, needed_by, squares, error_of, better, keep_of, keep_all, trail_of, stopped, walk_refusal, answered, walk_of}
 use Rattle.walk.specs.declared.M2N.{M2N}
 use Rattle.walk.specs.declared.Fit.{Fit}
 use Rattle.walk.specs.declared.Ended.{Ended}
 use Rattle.walk.specs.declared.Reason.TheVariants as reason
 use Rattle.walk.specs.declared.Reason.TheVariants.{Spent, Settled}
+use Rattle.walk.specs.declared.Variant.{Variant}
+use Rattle.walk.specs.declared.Variant.TheVariants.{FourMoments, FiveMoments}
 use Rattle.walk.specs.declared.Walked.{Walked}
 
 -- ---- the error reads at most five moments
@@ -109,9 +114,9 @@ unfolding trail_from
 on step ε n μ p r e = rw (e, trail_from)
 
 -- ---- what the code does at the first five moments a, in the state that has taken k steps
-pub stepped_on : (variant : ℕ) (ms : List Float) (a : Five) (μ p : Float) (r s : Step) → a ≡ five_of ms → r ≡ step_for variant (listed a) μ p → r ≡ s → step_for variant ms μ p ≡ s
+pub stepped_on : (m : M2N) (v : Variant) (a : Five) (μ p : Float) (r s : Step) → variant_number v ≡ m.variant → a ≡ five_of m.moments → r ≡ step_for (variant_number v) (listed a) μ p → r ≡ s → step_for m.variant m.moments μ p ≡ s
 unfolding step_for
-stepped_on variant ms a μ p r s ha hr hs = sym (hr ∙ ap (λ x. step_for variant (listed x) μ p) ha) ∙ hs
+stepped_on m v a μ p r s hv ha hr hs = ap (λ n. step_for n m.moments μ p) (sym hv) ∙ sym (hr ∙ ap (λ x. step_for (variant_number v) (listed x) μ p) ha) ∙ hs
 
 pub five_enough : (ms : List Float) (a : Five) (μ p : Float) → a ≡ five_of ms → sigma2_squared ms μ p ≡ sigma2_squared (listed a) μ p
 unfolding sigma2_squared eval power_of
@@ -149,9 +154,6 @@ goes_on m f g k μ p r h e hg s =
 
 -- ---- a walk that is not refused
 -- a walk not refused has the moments that its step reads
-ok_is : {n k : ℕ} → ◌≡◌ {A = Result ℕ Refusal} (Ok n) (Ok k) → n ≡ k
-ok_is e = grind arith
-
 pub enough : (m : M2N) (p : Float) → walk_refusal m p ≡ Ok tt → needed_by m.variant ≤ m.len
 unfolding walk_refusal
 enough m p e = go (not (eqb m.variant 1 || eqb m.variant 2)) (ltb m.len (needed_by m.variant)) (ltb-false m.len (needed_by m.variant)) e
@@ -169,25 +171,29 @@ at_least_four false n h = omega (arith, h)
 pub four_given : (m : M2N) (p : Float) → Ok tt ≡ walk_refusal m p → 4 ≤ m.len
 four_given m p h = at_least_four (eqb m.variant 1) m.len (enough m p (sym h))
 
--- ---- the refusals
--- a known variant leaves the later ones
-pub later : (m : M2N) (p : Float) (n : ℕ) → Ok n ≡ needed_for m.variant → walk_refusal m p ≡ later_refusal m.len n p
+-- ---- the check of a walk
+-- the refusals by the two tests of the variant
+pub is_allowed : (m : M2N) (p : Float) (v : Variant) → Ok v ≡ walk_variant m p → (variant_number v ≡ m.variant) × (Ok tt ≡ walk_refusal m p)
 unfolding walk_refusal
-later m p n e = go (not (eqb m.variant 1 || eqb m.variant 2)) e
+is_allowed m p v h = go (eqb m.variant 1) (eqb m.variant 2) (eqb-true m.variant 1) (eqb-true m.variant 2) h
   where
-    go : (b : Bool) → ◌≡◌ {A = Result ℕ Refusal} (Ok n) (cond b (Err UnknownVariant) (Ok (needed_by m.variant))) → cond b (Err UnknownVariant) (later_refusal m.len (needed_by m.variant) p) ≡ later_refusal m.len n p
-    go true e = cc
-    go false e = ap (λ (k : ℕ). later_refusal m.len k p) (sym (ok_is e))
+    go : (a b : Bool) → (a ≡ true → m.variant ≡ 1) → (b ≡ true → m.variant ≡ 2) → Ok v ≡ variant_unless (cond a (Ok FourMoments) (cond b (Ok FiveMoments) (Err UnknownVariant))) m.len p
+        → (variant_number v ≡ m.variant) × (Ok tt ≡ cond (not (a || b)) (Err UnknownVariant) (later_refusal m.len (cond a 4 5) p))
+    go true b f g e = let k = accepted (later_refusal m.len 4 p) FourMoments v e in (ap variant_number k.1 ∙ sym (f refl), k.0)
+    go false true f g e = let k = accepted (later_refusal m.len 5 p) FiveMoments v e in (ap variant_number k.1 ∙ sym (g refl), k.0)
+    go false false f g e = cc
 
-pub unknown : (m : M2N) (p : Float) (f : Refusal) → Err f ≡ needed_for m.variant → Err f ≡ walk_refusal m p
+is_refused : (m : M2N) (p : Float) (e : Refusal) → Err e ≡ walk_variant m p → Err e ≡ walk_refusal m p
 unfolding walk_refusal
-unknown m p f e = go (not (eqb m.variant 1 || eqb m.variant 2)) e
+is_refused m p e h = go (eqb m.variant 1) (eqb m.variant 2) h
   where
-    go : (b : Bool) → ◌≡◌ {A = Result ℕ Refusal} (Err f) (cond b (Err UnknownVariant) (Ok (needed_by m.variant))) → Err f ≡ cond b (Err UnknownVariant) (later_refusal m.len (needed_by m.variant) p)
-    go true e = grind arith
-    go false e = cc
+    go : (a b : Bool) → Err e ≡ variant_unless (cond a (Ok FourMoments) (cond b (Ok FiveMoments) (Err UnknownVariant))) m.len p
+        → Err e ≡ cond (not (a || b)) (Err UnknownVariant) (later_refusal m.len (cond a 4 5) p)
+    go true b h = refusing.refused (later_refusal m.len 4 p) FourMoments e h
+    go false true h = refusing.refused (later_refusal m.len 5 p) FiveMoments e h
+    go false false h = grind arith
 
 -- ---- a walk that is refused
-pub refused : (m : M2N) (μ p : Float) (e : Refusal) → Err e ≡ walk_refusal m p → record { state = m; outcome = Err e } ≡ walk_of m μ p
+pub refused : (m : M2N) (μ p : Float) (e : Refusal) → Err e ≡ walk_variant m p → record { state = m; outcome = Err e } ≡ walk_of m μ p
 unfolding walk_of
-refused m μ p e h = ap (λ x. answered x m (keep_all m (trail_of m μ p)) (trail_of m μ p)) h
+refused m μ p e h = ap (λ x. answered x m (keep_all m (trail_of m μ p)) (trail_of m μ p)) (is_refused m p e h)

@@ -1,13 +1,14 @@
 -- What the parts of the walk promise each other: the fit part of the state by itself. Definitions only.
-use Rattle.std.specs.Prelude.{Bool, true, false, not, ◌||◌, cond, eqb, ◌≡◌, ℕ, ◌+◌, ◌*◌, ◌-◌, ◌≤◌, min, Float, Result, Ok, Err}
+use Rattle.std.specs.Prelude.{Bool, true, false, cond, eqb, ◌≡◌, ℕ, ◌+◌, ◌*◌, ◌-◌, ◌≤◌, min, Float, Result, Ok, Err}
 use Rattle.std.specs.Float.Ieee.{lt}
 use Rattle.moments.specs.Lists.{listed}
 use Rattle.moments.specs.Mixture.{get_moments}
 use Rattle.moments.specs.declared.Five.{Five}
 use Rattle.moments.specs.declared.Params.{Params}
+use Rattle.refusal.specs.Numbers.{unless_refused}
 use Rattle.refusal.specs.declared.Refusal.{Refusal}
-use Rattle.refusal.specs.declared.Refusal.TheVariants.{UnknownVariant}
-use Rattle.walk.specs.Walk.{needed_by, squares, with_fit}
+use Rattle.walk.specs.Variants.{variant_number, variant_of}
+use Rattle.walk.specs.Walk.{later_refusal, needed_by, squares, with_fit}
 use Rattle.walk.specs.declared.M2N.{M2N}
 use Rattle.walk.specs.declared.Ended.{Ended}
 use Rattle.walk.specs.declared.Fit.{Fit}
@@ -15,6 +16,7 @@ use Rattle.walk.specs.declared.Reason.{Reason}
 use Rattle.walk.specs.declared.Reason.TheVariants.{Spent}
 use Rattle.walk.specs.declared.Seen.{Seen}
 use Rattle.walk.specs.declared.Turn.{Turn}
+use Rattle.walk.specs.declared.Variant.{Variant}
 
 -- the fit part of a state
 abbrev pub fit_part : M2N → Fit
@@ -33,9 +35,13 @@ fit_after len a f r = let n = get_moments r in let e = squares (listed a) (liste
 abbrev pub with_fit_of : M2N → Fit → M2N
 with_fit_of m f = with_fit m f.new_moments f.parameters f.error
 
--- how many moments the variant's step reads, if it is a variant
-abbrev pub needed_for : ℕ → Result ℕ Refusal
-needed_for variant = cond (not (eqb variant 1 || eqb variant 2)) (Err UnknownVariant) (Ok (needed_by variant))
+-- the state's variant, if its walk from the weight is not refused
+abbrev pub variant_unless : Result Variant Refusal → ℕ → Float → Result Variant Refusal
+variant_unless (Ok v) len p = unless_refused (later_refusal len (needed_by (variant_number v)) p) v
+variant_unless (Err e) len p = Err e
+
+abbrev pub walk_variant : M2N → Float → Result Variant Refusal
+walk_variant m p = variant_unless (variant_of m.variant) m.len p
 
 -- how a walk ended that was stopped so: spent where the count is the limit
 abbrev pub ended_after : ℕ → ℕ → Reason → Ended

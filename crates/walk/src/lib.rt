@@ -4,10 +4,11 @@
 
 ghost use Rattle.std.specs.Prelude.{◌≡◌, true, ◌≤◌, ◌<◌, min, Ok};
 ghost use Rattle.moments.specs.Lists.{five_of, listed};
-ghost use Rattle.walk.specs.Parts.{Turned, ended_after, fit_after, fit_part, needed_for, with_fit_of};
+ghost use Rattle.walk.specs.Parts.{Turned, ended_after, fit_after, fit_part, walk_variant, with_fit_of};
 ghost use Rattle.walk.specs.Reasons.{number_of};
 ghost use Rattle.walk.specs.Trail.{step_for};
-ghost use Rattle.walk.specs.Walk.{squares, walk_of, walk_refusal};
+ghost use Rattle.walk.specs.Variants.{variant_number, variant_of};
+ghost use Rattle.walk.specs.Walk.{needed_by, squares, walk_of, walk_refusal};
 
 use moments::{Five, Params};
 use refusal::Refusal;
@@ -26,6 +27,52 @@ pub struct M2N {
     pub new_moments: Five,
     pub parameters: Params,
     pub error: f64,
+}
+
+// Which step a walk takes; each is its number. A state has a number, since it may hold any, which a walk
+// refuses.
+#[derive(Clone, Copy, Debug, PartialEq, Eq)]
+pub enum Variant {
+    FourMoments = 1,
+    FiveMoments = 2,
+}
+
+impl TryFrom<usize> for Variant {
+    type Error = Refusal;
+
+    ghost try_from_gives = { λ n answer. answer ≡ variant_of n };
+
+    fn try_from(n: usize) -> Result<Variant, Refusal>
+        ensures { result ≡ variant_of n }
+    {
+        match n {
+            1 => Ok(Variant::FourMoments),
+            2 => Ok(Variant::FiveMoments),
+            _ => Err(Refusal::UnknownVariant),
+        }
+    }
+}
+
+impl Variant {
+    // How many moments the step reads.
+    fn needed(self) -> usize
+        ensures { result ≡ needed_by (variant_number self) }
+    {
+        match self {
+            Variant::FourMoments => 4,
+            Variant::FiveMoments => 5,
+        }
+    }
+
+    #[tactic(auto, unfolding(crate::specs::Trail::step_for))]
+    fn step(self, m: Five, mu_2: f64, p_1: f64) -> Step
+        ensures { result ≡ step_for (variant_number self) (listed m) mu_2 p_1 }
+    {
+        match self {
+            Variant::FourMoments => step::four(m, mu_2, p_1),
+            Variant::FiveMoments => step::five(m, mu_2, p_1),
+        }
+    }
 }
 
 // The part of the state that a walk changes.
@@ -111,18 +158,6 @@ pub fn first_five(m: M2N) -> Five
     }
 }
 
-// The variant's step. Document 01's state names it by a number, so it is looked up here and not handed
-// to the walk as a function.
-#[tactic(auto, unfolding(crate::specs::Trail::step_for))]
-fn stepped(variant: usize, m: Five, mu_2: f64, p_1: f64) -> Step
-    ensures { result ≡ step_for variant (listed m) mu_2 p_1 }
-{
-    if variant == 1 {
-        return step::four(m, mu_2, p_1);
-    }
-    step::five(m, mu_2, p_1)
-}
-
 // The squares of the differences, summed as Rust's sum() does, from -0.
 fn error_of(len: usize, a: Five, b: Five) -> f64
     requires { 4 ≤ len }
@@ -173,30 +208,19 @@ fn with_fit(m: M2N, f: Fit) -> M2N
     }
 }
 
-// How many moments the variant's step reads.
-fn needed(variant: usize) -> Result<usize, Refusal>
-    ensures { result ≡ needed_for variant }
+// The state's variant, or document 01's refusals of a walk, in its order.
+fn check(m: M2N, p_1: f64) -> Result<Variant, Refusal>
+    ensures { result ≡ walk_variant m p_1 }
 {
-    match variant {
-        1 => Ok(4),
-        2 => Ok(5),
-        _ => Err(Refusal::UnknownVariant),
-    }
-}
-
-// Document 01's refusals of a walk, in its order.
-fn check(m: M2N, p_1: f64) -> Result<(), Refusal>
-    ensures { result ≡ walk_refusal m p_1 }
-{
-    let needed = needed(m.variant)?;
-    if m.len < needed {
+    let variant = Variant::try_from(m.variant)?;
+    if m.len < variant.needed() {
         return Err(Refusal::TooFewMoments);
     }
     if 16 < m.len {
         return Err(Refusal::TooManyMoments);
     }
     if 0.0 <= p_1 && p_1 < 1.0 {
-        return Ok(());
+        return Ok(variant);
     }
     Err(Refusal::BadWeight)
 }
@@ -246,8 +270,8 @@ fn count_rounds(count: usize, max_iter: usize, mu: f64, p: f64, seen: Seen) -> T
 
 // The walk of a state that is not refused. `max_iter` is the budget. A turn may count whole rounds, so
 // the loop is no `for` over its turns.
-fn walk(m: M2N, mu_2: f64, p_1: f64) -> Walked
-    requires { Ok tt ≡ walk_refusal m p_1 }
+fn walk(m: M2N, variant: Variant, mu_2: f64, p_1: f64) -> Walked
+    requires { (variant_number variant ≡ m.variant) × (Ok tt ≡ walk_refusal m p_1) }
     ensures { result ≡ walk_of m mu_2 p_1 }
 {
     let a = first_five(m);
@@ -258,7 +282,7 @@ fn walk(m: M2N, mu_2: f64, p_1: f64) -> Walked
     let mut count = 0;
     let mut seen = Seen { mu, p, at: 0 };
     while count < max_iter {
-        let s = stepped(m.variant, a, mu, p);
+        let s = variant.step(a, mu, p);
         count += 1;
         let Step::Admitted(r) = s else {
             return Walked {
@@ -289,15 +313,15 @@ fn walk(m: M2N, mu_2: f64, p_1: f64) -> Walked
 }
 
 // Iterates the variant's step from a mean and a weight.
-#[tactic(auto, using(crate::proofs::Trails::refused))]
+#[tactic(auto, using(crate::proofs::Trails::is_allowed, crate::proofs::Trails::refused))]
 pub fn iterate_from(m: M2N, mu_2: f64, p_1: f64) -> Walked
     ensures { result ≡ walk_of m mu_2 p_1 }
 {
-    if let Err(refusal) = check(m, p_1) {
-        return Walked {
+    match check(m, p_1) {
+        Ok(variant) => walk(m, variant, mu_2, p_1),
+        Err(refusal) => Walked {
             state: m,
             outcome: Err(refusal),
-        };
+        },
     }
-    walk(m, mu_2, p_1)
 }

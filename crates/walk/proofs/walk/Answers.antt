@@ -8,24 +8,24 @@ use Rattle.walk.proofs.Trails.{begins, stepped_on, fit_on, settled_on, spent, tu
 use Rattle.walk.proofs.walk.Goals as goal
 
 pub loop-count-init : goal.loop-count-init
-loop-count-init c = (omega arith, begins _ _ _ _ c.requires c.from-f.ensures, since_now _ _ _ _ _)
+loop-count-init c = (omega arith, begins _ _ _ _ c.requires.1 c.from-f.ensures, since_now _ _ _ _ _)
 
 pub returns-in_default : goal.returns-in_default
 returns-in_default c =
     let m = c.args.m in
     let h : c.loop-count.count < m.max_iter = omega arith in
-    turned_away m _ _ _ _ _ _ h (stepped_on _ m.moments _ _ _ _ _ c.first_five-a.ensures c.stepped-s.ensures c.in_default.is) c.with_fit.ensures c.ended_after.ensures
+    turned_away m _ _ _ _ _ _ h (stepped_on m _ _ _ _ _ _ c.requires.0 c.first_five-a.ensures c.step-s.ensures c.in_default.is) c.with_fit.ensures c.ended_after.ensures
     ∙ sym c.loop-count.invariant.1
 
 pub fit_after-f-requires : goal.fit_after-f-requires
-fit_after-f-requires c = four_given _ _ c.requires
+fit_after-f-requires c = four_given _ _ c.requires.1
 
 pub returns-then-abs-m : goal.returns-then-abs-m
 returns-then-abs-m c =
     let m = c.args.m in
     let h : c.loop-count.count < m.max_iter = omega (arith, c.loop-count-test.true) in
     let a = c.first_five-a.ensures in
-    settles m _ _ _ _ _ _ _ _ h (stepped_on _ m.moments _ _ _ _ _ a c.stepped-s.ensures c.in-Admitted.is) (fit_on _ m.moments _ _ _ _ a c.fit_after-f.ensures) (settled_on _ _ _ _ true c.abs.ensures c.if-abs-m.true) c.with_fit-then-abs-m.ensures c.ended_after-then-abs-m.ensures
+    settles m _ _ _ _ _ _ _ _ h (stepped_on m _ _ _ _ _ _ c.requires.0 a c.step-s.ensures c.in-Admitted.is) (fit_on _ m.moments _ _ _ _ a c.fit_after-f.ensures) (settled_on _ _ _ _ true c.abs.ensures c.if-abs-m.true) c.with_fit-then-abs-m.ensures c.ended_after-then-abs-m.ensures
     ∙ sym c.loop-count.invariant.1
 
 pub loop-count-preserved : goal.loop-count-preserved
@@ -33,7 +33,7 @@ loop-count-preserved c =
     let m = c.args.m in
     let h : c.loop-count.count < m.max_iter = omega (arith, c.loop-count-test.true) in
     let a = c.first_five-a.ensures in
-    let e = stepped_on _ m.moments _ _ _ _ _ a c.stepped-s.ensures c.in-Admitted.is in
+    let e = stepped_on m _ _ _ _ _ _ c.requires.0 a c.step-s.ensures c.in-Admitted.is in
     let g = fit_on _ m.moments _ _ _ _ a c.fit_after-f.ensures in
     let s = settled_on _ _ _ _ false c.abs.ensures c.if-abs-m.false in
     let t = turns m _ _ _ _ _ _ (omega (arith, h)) (omega (arith, c.loop-count.invariant.2.counted)) (since_on m _ _ _ _ _ _ _ c.loop-count.invariant.2 e g s) c.count_rounds-t.ensures in

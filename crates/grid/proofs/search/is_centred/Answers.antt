@@ -1,7 +1,8 @@
+use native.Mathlib.Omega.{arith}
 use lib.Ieee.{ne, of_bits}
-use borrow.Author.Tests.{eq-eqb}
+use Rattle.std.proofs.lemmas.Grind.{common_steps}
 use Rattle.grid.proofs.search.is_centred.Goals as goal
 
-pub returns-then-m-eq2 : goal.returns-then-m-eq2
+pub returns-then-eq : goal.returns-then-eq
 unfolding ne of_bits
-returns-then-m-eq2 c = rw (eq-eqb _ _ c.if-m-eq2.true)
+returns-then-eq c = grind (arith, common_steps)
