@@ -9,7 +9,8 @@ use replies::Reply;
 use step::Step;
 
 // Which of iter_4 and iter_5 is asked for. An enum, since the contracts say by it which definition
-// answers: a closure would need that definition beside it.
+// answers. With the step as an `impl Fn`, the contract of `one_step` is about every definition that the
+// calls are equal to and that refuses long lists, and `answer` needs two proofs more.
 #[derive(Clone, Copy)]
 enum Iter {
     Four,
