@@ -3,9 +3,8 @@
 
 ghost use Rattle.std.specs.Prelude.{◌≡◌};
 ghost use Rattle.text.specs.Bytes.{bytes};
-ghost use Rattle.text_write.specs.Appending.{Appended};
+ghost use Rattle.text_write.specs.Appending.{Appended, Puts};
 ghost use Rattle.printing.specs.Lines.{head, line};
-ghost use Rattle.printing_values.specs.Texts.{Puts};
 
 use replies::Reply;
 use text_write::Text;

@@ -10,8 +10,9 @@ use Rattle.text.specs.Bytes.{bytes}
 use Rattle.text.specs.Print.{hex}
 use Rattle.text_write.specs.Appending.{Appended}
 use Rattle.text_write.specs.declared.Text.{Text}
-use Rattle.printing_values.specs.Texts.{Puts, fractions}
-use Rattle.printing_values.proofs.Putting.{Left, left_none, left_some, puts_first, puts_one, puts_then}
+use Rattle.text_write.specs.Appending.{Puts}
+use Rattle.printing_values.specs.Texts.{fractions}
+use Rattle.text_write.proofs.Putting.{Left, left_none, left_some, puts_first, puts_one, puts_then}
 
 module _ {t : Text} {ts : List (List ℕ)} (xs : List Float) (i : ℕ) where
   -- one fraction more

@@ -1,4 +1,3 @@
 -- Laws that belong to no one function, on plain values.
 pub mod Fractions
-pub mod Putting
 pub mod Spans

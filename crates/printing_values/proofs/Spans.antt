@@ -12,8 +12,9 @@ use Rattle.protocol_lists.specs.Lists.{values_of}
 use Rattle.replies.specs.declared.forms.Columns.{Columns}
 use Rattle.text_write.specs.declared.Text.{Text}
 use Rattle.printing_values.specs.Rows.{entries, row, rows_from}
-use Rattle.printing_values.specs.Texts.{Puts, fractions, instant}
-use Rattle.printing_values.proofs.Putting.{Left, left_none, left_some, puts_then}
+use Rattle.text_write.specs.Appending.{Puts}
+use Rattle.printing_values.specs.Texts.{fractions, instant}
+use Rattle.text_write.proofs.Putting.{Left, left_none, left_some, puts_then}
 
 module _ (columns : Columns) (xs : List Float) (n i : ℕ) (s : List ℕ) {t : Text} {ts : List (List ℕ)} where
   -- one row more

@@ -1,7 +1,7 @@
 // The values of a reply, put one after another.
 #![tactic(auto)]
 
-ghost use Rattle.printing_values.specs.Texts.{Puts};
+ghost use Rattle.text_write.specs.Appending.{Puts};
 ghost use Rattle.printing_values.specs.Values.{values};
 
 use replies::Reply;

@@ -1,6 +1,7 @@
 // A list of fractions.
 ghost use Rattle.std.specs.Prelude.{◌++◌, take};
-ghost use Rattle.printing_values.specs.Texts.{Puts, fractions, natural};
+ghost use Rattle.text_write.specs.Appending.{Puts};
+ghost use Rattle.printing_values.specs.Texts.{fractions, natural};
 
 use crate::numbers;
 use text_write::Text;

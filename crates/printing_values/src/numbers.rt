@@ -1,5 +1,6 @@
 // Numbers, each after a blank.
-ghost use Rattle.printing_values.specs.Texts.{Puts, fractions, instant, natural};
+ghost use Rattle.text_write.specs.Appending.{Puts};
+ghost use Rattle.printing_values.specs.Texts.{fractions, instant, natural};
 
 use text_write::Text;
 

@@ -2,7 +2,8 @@
 ghost use Rattle.std.specs.Prelude.{◌≡◌, ◌++◌, get_or};
 ghost use Rattle.std.specs.Float.{nan};
 ghost use Rattle.printing_values.specs.Rows.{entries, rows, rows_from, starts};
-ghost use Rattle.printing_values.specs.Texts.{Puts, fractions, natural};
+ghost use Rattle.text_write.specs.Appending.{Puts};
+ghost use Rattle.printing_values.specs.Texts.{fractions, natural};
 
 use crate::numbers;
 use replies::{Columns, SpanRows};

@@ -1,5 +1,5 @@
 // How a walk or a search ended, and the state after it.
-ghost use Rattle.printing_values.specs.Texts.{Puts};
+ghost use Rattle.text_write.specs.Appending.{Puts};
 ghost use Rattle.printing_values.specs.Values.{found, searched, walked};
 
 use crate::numbers;

@@ -1,14 +1,14 @@
 -- Rows put one after another: a count read back from its float is the count, a row is short, and each row put is the next of the text. Assumes nothing.
 use Prim.Native.Nat.{ℕ, ◌+◌, ◌*◌, ◌≤◌, ◌<◌}
-use mathlib.Core.Path.{◌≡◌}
+use mathlib.Core.Path.{◌≡◌, refl, ◌∙◌, ap}
 use mathlib.Core.Bool.{◌&&◌}
-use mathlib.Core.List.{List, [], ◌∷◌, append-nil}
+use mathlib.Core.List.{List, [], ◌∷◌, ◌++◌, append-nil}
 use native.Mathlib.Omega.{arith}
 use borrow.Author.Tests.{le-leb}
 use lib.IntN.{ℤ, pos}
 use lib.Ieee.{Float, nan, binary64, to_bits, to_unsigned, in_float}
 use lib.Ieee.Back.{unsigned_back}
-use lib.ListN.{length, take, get_or}
+use lib.ListN.{length, length-append, take, get_or}
 use Rattle.std.specs.List.{flat_map}
 use Rattle.std.proofs.lemmas.Grind.{flat_map-append}
 use Rattle.std.proofs.lemmas.List.{take_more}
@@ -17,7 +17,8 @@ use Rattle.bet_sizing.specs.declared.counts.Side.TheVariants.{Long, Short}
 use Rattle.bet_sizing.specs.Counts.{concurrent, live, on_side, whole}
 use Rattle.bet_sizing.proofs.Ranks.{indicator_le}
 use Rattle.budget.specs.Budget.{budget_size}
-use Rattle.text.proofs.Placing.{Front, front_then}
+use Rattle.text.specs.Print.{Placed}
+use Rattle.text.proofs.Placing.{placed_front, placed_length, placed_next}
 use Rattle.text_write.specs.Appending.{Appended}
 use Rattle.text_write.specs.declared.Text.{Text}
 use Rattle.sheet_rows.proofs.Rows.{row_short}
@@ -36,6 +37,27 @@ concurrent_few side t (s ∷ ss) (e ∷ es) (d ∷ ds) = omega (arith, indicator
 whole_back : (n : ℕ) → n ≤ 1024 → to_unsigned 64 (whole n) ≡ n
 unfolding whole in_float
 whole_back n h = (unsigned_back binary64 64 n (rw (le-leb n 9007199254740992 (omega arith)) tt) (omega arith)).1
+
+-- ---- texts one after another, from the front of a buffer of n bytes: t so far, at most k bytes of it
+pub record Front (n : ℕ) (o : List ℕ) (r : ℕ) (t : List ℕ) (k : ℕ) : Type 0 where
+  pub size : length o ≡ n
+  pub place : r ≡ length t
+  pub short : length t ≤ k
+  pub is : take r o ≡ t
+
+pub front_none : (o : List ℕ) → Front (length o) o 0 [] 0
+front_none o = record { size = refl; place = refl; short = omega arith; is = refl }
+
+front_then : {n : ℕ} {o o' : List ℕ} {a b : ℕ} {t u : List ℕ} {k : ℕ} (m : ℕ) → k + m ≤ n → length u ≤ m → Front n o a t k → Placed o o' a b u
+    → Front n o' b (t ++ u) (k + m)
+front_then {n} {o} {o'} {a} {b} {t} {u} {k} m h l f p =
+    let room : a + length u ≤ length o = omega (arith, f.size, f.place, f.short) in
+    record {
+      size = placed_length o o' a b u room p ∙ f.size;
+      place = rw length-append (omega (arith, placed_next o o' a b u room p, f.place));
+      short = rw length-append (omega (arith, f.short));
+      is = placed_front o o' a b u room p ∙ ap (λ (x : List ℕ). x ++ u) f.is;
+    }
 
 -- ---- one row more
 -- with i rows put

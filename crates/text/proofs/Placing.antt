@@ -1,7 +1,7 @@
 -- A text put into a buffer: what it comes to, one text after another (`placed_then`), and a text at the front. Assumes nothing.
 use Prim.Native.Nat.{ℕ, ◌+◌, ◌≤◌, ◌<◌}
-use mathlib.Core.Path.{◌≡◌, refl, ◌∙◌, ap}
-use mathlib.Core.List.{List, [], ◌++◌, append_assoc}
+use mathlib.Core.Path.{◌≡◌, ◌∙◌, ap}
+use mathlib.Core.List.{List, ◌++◌, append_assoc}
 use native.Mathlib.Omega.{arith}
 use native.Mathlib.Decide.{dec_le}
 use borrow.Author.Tests.{le-leb, lt-leb}
@@ -86,27 +86,3 @@ fronts o o' r t h p =
       within = omega (arith, placed_next o o' 0 r t k p, placed_length o o' 0 r t k p);
       is = placed_front o o' 0 r t k p;
     }
-
--- ---- texts one after another, from the front of a buffer of n bytes: t so far, at most k bytes of it
-pub record Front (n : ℕ) (o : List ℕ) (r : ℕ) (t : List ℕ) (k : ℕ) : Type 0 where
-  pub size : length o ≡ n
-  pub place : r ≡ length t
-  pub short : length t ≤ k
-  pub is : take r o ≡ t
-
-pub front_none : (o : List ℕ) → Front (length o) o 0 [] 0
-front_none o = record { size = refl; place = refl; short = omega arith; is = refl }
-
-pub front_then : {n : ℕ} {o o' : List ℕ} {a b : ℕ} {t u : List ℕ} {k : ℕ} (m : ℕ) → k + m ≤ n → length u ≤ m → Front n o a t k → Placed o o' a b u
-    → Front n o' b (t ++ u) (k + m)
-front_then {n} {o} {o'} {a} {b} {t} {u} {k} m h l f p =
-    let room : a + length u ≤ length o = omega (arith, f.size, f.place, f.short) in
-    record {
-      size = placed_length o o' a b u room p ∙ f.size;
-      place = rw length-append (omega (arith, placed_next o o' a b u room p, f.place));
-      short = rw length-append (omega (arith, f.short));
-      is = placed_front o o' a b u room p ∙ ap (λ (x : List ℕ). x ++ u) f.is;
-    }
-
-pub front_is : {n : ℕ} {o : List ℕ} {r : ℕ} {t : List ℕ} {k : ℕ} → k ≤ n → Front n o r t k → Fronts o r t
-front_is h f = record { within = omega (arith, f.size, f.place, f.short); is = f.is }

@@ -1,2 +1,3 @@
 -- Laws that belong to no one function, on plain values.
 pub mod Appending
+pub mod Putting

@@ -1,5 +1,5 @@
 -- `printing::put` meets its contract: it puts one text after another. Assumes nothing.
-use Rattle.printing_values.proofs.Putting.{puts_first, puts_one, puts_then}
+use Rattle.text_write.proofs.Putting.{puts_first, puts_one, puts_then}
 use Rattle.printing.proofs.put.Goals as goal
 use Rattle.printing.proofs.put.Goals.{in-Some, in_default}
 

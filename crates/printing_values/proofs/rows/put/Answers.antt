@@ -4,7 +4,7 @@ use native.Mathlib.Omega.{arith}
 use lib.ListN.{drop, length, length-drop}
 use lib.Seq.{take_all}
 use Rattle.std.proofs.lemmas.List.{drop_min}
-use Rattle.printing_values.proofs.Putting.{puts_then}
+use Rattle.text_write.proofs.Putting.{puts_then}
 use Rattle.printing_values.proofs.rows.put.Goals as goal
 
 pub returns : goal.returns

@@ -4,7 +4,7 @@ use borrow.Author.Rules.{rules}
 use mir.Syntax.{w64}
 use mir.ValLaws.{to_z-of_z}
 use Rattle.printing_values.specs.Rows.{rows_from}
-use Rattle.printing_values.proofs.Putting.{puts_none}
+use Rattle.text_write.proofs.Putting.{puts_none}
 use Rattle.printing_values.proofs.Spans.{left_row, no_row, no_start}
 use Rattle.printing_values.proofs.rows.put_rows.Goals as goal
 

@@ -3,7 +3,7 @@ use Prim.Native.Nat.{◌-◌}
 use Rattle.protocol.specs.Words.{next_instant}
 use Rattle.protocol_lists.specs.Lists.{values_of}
 use Rattle.printing_values.specs.Rows.{rows_from}
-use Rattle.printing_values.proofs.Putting.{Left}
+use Rattle.text_write.proofs.Putting.{Left}
 use Rattle.printing_values.proofs.rows.put_rows.Given as goal
 
 abbrev pub invariant-loop-i : goal.invariant-loop-i

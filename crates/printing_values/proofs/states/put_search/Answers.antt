@@ -1,6 +1,6 @@
 -- `printing_values::states::put_search` meets its contract: it puts one text after another. Assumes nothing.
 use Rattle.printing_values.proofs.Fractions.{puts_more}
-use Rattle.printing_values.proofs.Putting.{puts_first, puts_then}
+use Rattle.text_write.proofs.Putting.{puts_first, puts_then}
 use Rattle.printing_values.proofs.states.put_search.Goals as goal
 
 pub returns : goal.returns

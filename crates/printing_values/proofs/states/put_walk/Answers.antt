@@ -1,6 +1,6 @@
 -- `printing_values::states::put_walk` meets its contract: it puts one text after another. Assumes nothing.
 use Rattle.printing_values.proofs.Fractions.{puts_more}
-use Rattle.printing_values.proofs.Putting.{puts_then}
+use Rattle.text_write.proofs.Putting.{puts_then}
 use Rattle.printing_values.proofs.states.put_walk.Goals as goal
 
 pub returns : goal.returns

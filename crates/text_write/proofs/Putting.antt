@@ -11,9 +11,8 @@ use lib.ListN.{drop, length, length-append, length-drop, take, take-append-drop}
 use lib.Seq.{length-take-le}
 use Rattle.text.specs.Print.{Placed, placed, place_after}
 use Rattle.text.proofs.Placing.{placed_next, placed_then}
-use Rattle.text_write.specs.Appending.{Appended}
+use Rattle.text_write.specs.Appending.{Appended, Puts, after_all, all_placed}
 use Rattle.text_write.specs.declared.Text.{Text}
-use Rattle.printing_values.specs.Texts.{Puts, after_all, all_placed}
 
 -- ---- none, one, and some after others
 pub puts_none : {t : Text} → Puts t t []
