@@ -45,7 +45,7 @@ fn mp_fit(s: &[u8], xs: &mut [f64]) -> Option<Reply>
         parameters: state.parameters,
         error: state.error,
     };
-    Some(fill(m, &weights[..n.min(4096)], places as usize, xs))
+    Some(fill(m, &weights[..n.min(weights.len())], places as usize, xs))
 }
 
 // The rows that are new go in front of xs. There is room for as many as are asked for, and as xs has

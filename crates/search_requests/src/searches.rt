@@ -40,7 +40,7 @@ fn single_fit(words: &[u8]) -> Option<Reply>
         parameters: state.parameters,
         error: state.error,
     };
-    let fitted = ef3m::single_fit_through(m, epsilon_override, &weights[..n.min(4096)]);
+    let fitted = ef3m::single_fit_through(m, epsilon_override, &weights[..n.min(weights.len())]);
     Some(reply(fitted))
 }
 
