@@ -1,9 +1,8 @@
 -- Rows a block at a time: each σ₂² put in its place, and a row whose σ₂² is below zero leaves the search as it was. Assumes nothing.
 use mathlib.Core.Path.{◌≡◌, refl, sym, ap, ◌∙◌}
-use mathlib.Core.List.{List, [], ◌∷◌}
+use mathlib.Core.List.{List}
 use mathlib.Core.Bool.{Bool, true, false, cond}
-use Prim.Native.Nat.{ℕ, zero, suc, ◌+◌, ◌-◌, ◌<◌}
-use native.Mathlib.Omega.{arith}
+use Prim.Native.Nat.{ℕ, zero, suc, ◌+◌, ◌-◌}
 use lib.ListN.{length, drop, take, get_or}
 use borrow.Author.Rules.{part_to_end}
 use Rattle.std.proofs.lemmas.List.{get_or-drop}
@@ -18,7 +17,7 @@ use Rattle.walk.proofs.Stays.{same_moments, stays}
 use Rattle.walk.proofs.Trails.{five_enough}
 use Rattle.walk.specs.Walk.{five_of, walk_of}
 use Rattle.walk.specs.declared.M2N.{M2N}
-use Rattle.grid_rows.specs.Rows.{Means, Variances, mean_of, looked, search_to}
+use Rattle.grid_rows.specs.Rows.{mean_of, looked, search_to}
 use Rattle.grid_rows.specs.FitResultRow.{row_of}
 use Rattle.grid_rows.specs.declared.Search.{Search}
 
@@ -41,13 +40,6 @@ seen_least false s x e = e
 
 seen_again : (s : Search) → lt s.state.error s.err_min ≡ false → looked s s.state ≡ s
 seen_again s h = rw h
-
--- what an iterator over a list gives after i items, and what it has left then
-pub next_item : (l rest after : List Float) (i : ℕ) (x : Float) → rest ≡ drop i l → rest ≡ x ∷ after → (x ≡ get_or l i nan) × (i < length l) × (after ≡ drop (suc i) l)
-next_item [] rest after zero x h e = absurd cc
-next_item [] rest after (suc i) x h e = absurd cc
-next_item (y ∷ l) rest after zero x h e = (cc, omega arith, cc)
-next_item (y ∷ l) rest after (suc i) x h e = let (a, b, c) = next_item l rest after i x h e in (a, omega (arith, b), c)
 
 module _ (m : M2N) (deviation : Float) (weights : List Float) where
   -- ---- the search after i rows
@@ -81,16 +73,6 @@ module _ (m : M2N) (deviation : Float) (weights : List Float) where
   unfolding search_to
   row_more i n s s' μ p hn hs hμ hp h = rw (hn, ← hp, ← hμ, ← hs) h
 
-  -- what is taken from a block after i rows, whose weights are those after the first `from`, and what is left of it
-  module _ (from i : ℕ) (us vs : List Float) (a : Five) (long : length us ≡ 256) (hu : Means m deviation from us) (hv : Variances (listed a) us (take (length weights - from) (drop from weights)) vs) where
-    pub taken : {us' vs' ps' lu lv lp lu' lv' lp' : List Float} {u v p : Float} → lu ≡ drop i us' → lv ≡ drop i vs' → lp ≡ drop i ps' → lu ≡ u ∷ lu' → lv ≡ v ∷ lv' → lp ≡ p ∷ lp'
-        → us' ≡ us → vs' ≡ vs → ps' ≡ take (length weights - from) (drop from weights)
-        → (u ≡ mean_of m deviation (suc (from + i))) × (p ≡ get_or weights (from + i) nan) × (v ≡ sigma2_squared (listed a) u p) × (lu' ≡ drop (suc i) us') × (lv' ≡ drop (suc i) vs') × (lp' ≡ drop (suc i) ps')
-    taken {us' = us'} {vs' = vs'} {ps' = ps'} bu bv bp nu nv np eu ev ep =
-        let (xu, ku, ru) = next_item us' _ _ i _ bu nu in
-        let (xv, kv, rv) = next_item vs' _ _ i _ bv nv in
-        let (xp, kp, rp) = next_item ps' _ _ i _ bp np in
-        let below : i < 256 = omega (arith, ku, long, ap length eu) in
-        let mean = xu ∙ ap (λ l. get_or l i nan) eu in
-        let weight = xp ∙ ap (λ l. get_or l i nan) ep in
-        (mean ∙ hu i below, weight ∙ ap (λ l. get_or l i nan) (part_to_end weights from) ∙ get_or-drop from weights i nan, rw (mean, weight) (xv ∙ ap (λ l. get_or l i nan) ev ∙ hv i below (omega (arith, kp, ap length ep))), ru, rv, rp)
+  -- the weights of a block are those after the first `from`
+  pub block_weight : (from j : ℕ) → get_or (take (length weights - from) (drop from weights)) j nan ≡ get_or weights (from + j) nan
+  block_weight from j = ap (λ l. get_or l j nan) (part_to_end weights from) ∙ get_or-drop from weights j nan

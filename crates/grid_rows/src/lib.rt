@@ -161,7 +161,8 @@ fn walk_row(s: Search, mu_2: f64, p_1: f64) -> Search
 }
 
 // The rows after the first `from`, 256 or as many as there are. Where sigma_2^2 is below zero the walk ends
-// at its first step and leaves all as it was: so end most rows, and they are passed over.
+// at its first step and leaves all as it was: so end most rows, and they are passed over. The loop goes by
+// an index: over a zip of the three it was proved too, and a search took a tenth longer.
 fn walk_block(s: Search, m: M2N, deviation: f64, weights: &[f64], from: usize) -> Search
     requires { (s ≡ search_to m deviation weights.now from) × (from ≤ length weights.now) × (from ≤ 131072) }
     ensures { result ≡ search_to m deviation weights.now (min (from + 256) (length weights.now)) }
@@ -170,11 +171,11 @@ fn walk_block(s: Search, m: M2N, deviation: f64, weights: &[f64], from: usize) -
     let means = means(m, deviation, from);
     let variances = variances(walk::first_five(m), means, block);
     let mut t = s;
-    for ((mean, variance), weight) in means.iter().zip(&variances).zip(block) {
-        if *variance < 0.0 {
+    for j in 0..usize::min(block.len(), 256) {
+        if variances[j] < 0.0 {
             continue;
         }
-        t = walk_row(t, *mean, *weight);
+        t = walk_row(t, means[j], block[j]);
     }
     t
 }

@@ -1,10 +1,6 @@
-use Rattle.std.proofs.Common.{◌≡◌, ◌+◌, length, drop}
+use Rattle.std.proofs.Common.{◌≡◌, ◌+◌}
 use Rattle.grid_rows.specs.Rows.{search_to}
 use Rattle.grid_rows.proofs.walk_block.Given as goal
 
-abbrev pub invariant-loop-mean : goal.invariant-loop-mean
-invariant-loop-mean l =
-    let i = length l.yielded in
-    let left = l.mean-iterator in
-    let all = l.initial.mean-iterator in
-    (l.t ≡ search_to l.fn.m l.fn.deviation l.weights (l.from + i)) × (left.a.a.rest.now ≡ drop i all.a.a.rest.now) × (left.a.b.rest.now ≡ drop i all.a.b.rest.now) × (left.b.rest.now ≡ drop i all.b.rest.now)
+abbrev pub invariant-loop-j : goal.invariant-loop-j
+invariant-loop-j l = l.t ≡ search_to l.fn.m l.fn.deviation l.weights (l.from + l.j)
