@@ -7,7 +7,7 @@ ghost use Rattle.moments.specs.Comb.{choose};
 ghost use Rattle.moments.specs.Lists.{five_of, listed, params_listed, params_of};
 ghost use Rattle.moments.specs.Mixture.{get_moments};
 ghost use Rattle.moments.specs.Orders.{numbered, raw_sum};
-ghost use Rattle.moments.specs.Refusals.{centred_moment, centred_refusal, raw_moment, raw_out, raw_refusal};
+ghost use Rattle.moments.specs.Refusals.{centred_moment, centred_refusal, length_refusal, raw_moment, raw_out, raw_refusal};
 
 use refusal::Refusal;
 
@@ -147,19 +147,26 @@ fn numbered_at(m: &[f64], k: usize) -> f64
     m[k - 1]
 }
 
-fn check_centred(len: usize, order: usize) -> Result<(), Refusal>
-    ensures { result ≡ centred_refusal len order }
+// At least as many moments as are needed, and no more than 16.
+pub fn check_len(len: usize, needed: usize) -> Result<(), Refusal>
+    ensures { result ≡ length_refusal len needed }
 {
-    if 16 < order {
-        return Err(Refusal::OrderTooHigh);
-    }
-    if len < order.max(1) {
+    if len < needed {
         return Err(Refusal::TooFewMoments);
     }
     if 16 < len {
         return Err(Refusal::TooManyMoments);
     }
     Ok(())
+}
+
+fn check_centred(len: usize, order: usize) -> Result<(), Refusal>
+    ensures { result ≡ centred_refusal len order }
+{
+    if 16 < order {
+        return Err(Refusal::OrderTooHigh);
+    }
+    check_len(len, order.max(1))
 }
 
 // The centred moment of an order, from raw moments.

@@ -83,11 +83,15 @@ reason_of limit t = cond (eqb (length t) limit) Spent (stopped t)
 abbrev pub needed_by : ℕ → ℕ
 needed_by variant = cond (eqb variant 1) 4 5
 
+-- a starting weight: at least 0 and below 1, so not NaN
+abbrev pub is_weight : Float → Bool
+is_weight p = le nought p && lt p one
+
 abbrev pub later_refusal : ℕ → ℕ → Float → Checked
 later_refusal len needed p =
     cond (ltb len needed) (Err TooFewMoments)
     (cond (ltb 16 len) (Err TooManyMoments)
-    (cond (le nought p && lt p one) (Ok tt) (Err BadWeight)))
+    (cond (is_weight p) (Ok tt) (Err BadWeight)))
 
 -- variant not 1 or 2; fewer than 4 moments (variant 2: 5); more than 16; weight not at least 0 and below 1
 unfoldable pub walk_refusal : M2N → Float → Checked

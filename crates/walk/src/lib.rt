@@ -9,7 +9,7 @@ ghost use Rattle.walk.specs.Reasons.{number_of};
 ghost use Rattle.walk.specs.Squares.{squares_summed};
 ghost use Rattle.walk.specs.Trail.{step_for};
 ghost use Rattle.walk.specs.Variants.{variant_number, variant_of};
-ghost use Rattle.walk.specs.Walk.{needed_by, squares, walk_of, walk_refusal};
+ghost use Rattle.walk.specs.Walk.{is_weight, needed_by, squares, walk_of, walk_refusal};
 
 use moments::{Five, Params};
 use refusal::Refusal;
@@ -215,21 +215,23 @@ fn with_fit(m: M2N, f: Fit) -> M2N
     }
 }
 
+// Whether a walk may start at the weight: at least 0 and below 1, so not NaN.
+pub fn is_weight(p_1: f64) -> bool
+    ensures { result ≡ is_weight p_1 }
+{
+    0.0 <= p_1 && p_1 < 1.0
+}
+
 // The state's variant, or document 01's refusals of a walk, in its order.
 fn check(m: M2N, p_1: f64) -> Result<Variant, Refusal>
     ensures { result ≡ walk_variant m p_1 }
 {
     let variant = Variant::try_from(m.variant)?;
-    if m.len < variant.needed() {
-        return Err(Refusal::TooFewMoments);
+    moments::check_len(m.len, variant.needed())?;
+    if !is_weight(p_1) {
+        return Err(Refusal::BadWeight);
     }
-    if 16 < m.len {
-        return Err(Refusal::TooManyMoments);
-    }
-    if 0.0 <= p_1 && p_1 < 1.0 {
-        return Ok(variant);
-    }
-    Err(Refusal::BadWeight)
+    Ok(variant)
 }
 
 // It is spent whenever the count equals the limit; otherwise the reason is what stopped it.
