@@ -4,7 +4,7 @@
 
 ghost use Rattle.std.specs.Prelude.{◌≡◌, true, ◌≤◌, ◌<◌, min, Ok};
 ghost use Rattle.moments.specs.Lists.{five_of, listed};
-ghost use Rattle.walk.specs.Parts.{Turned, ended_after, fit_after, fit_part, walk_variant, with_fit_of};
+ghost use Rattle.walk.specs.Parts.{Turned, ended_after, fit_after, fit_part, walk_variant, walked_to, with_fit_of};
 ghost use Rattle.walk.specs.Reasons.{number_of};
 ghost use Rattle.walk.specs.Squares.{squares_summed};
 ghost use Rattle.walk.specs.Trail.{step_for};
@@ -280,9 +280,9 @@ fn count_rounds(count: usize, max_iter: usize, mu: f64, p: f64, seen: Seen) -> T
 
 // The walk of a state that is not refused. `max_iter` is the budget. A turn may count whole rounds, so
 // the loop is no `for` over its turns.
-fn walk(m: M2N, variant: Variant, mu_2: f64, p_1: f64) -> Walked
+fn walk(m: M2N, variant: Variant, mu_2: f64, p_1: f64) -> (Fit, Ended)
     requires { (variant_number variant ≡ m.variant) × (Ok tt ≡ walk_refusal m p_1) }
-    ensures { result ≡ walk_of m mu_2 p_1 }
+    ensures { walked_to m result.0 result.1 ≡ walk_of m mu_2 p_1 }
 {
     let a = first_five(m);
     let max_iter = m.max_iter;
@@ -295,17 +295,11 @@ fn walk(m: M2N, variant: Variant, mu_2: f64, p_1: f64) -> Walked
         let s = variant.step(a, mu, p);
         count += 1;
         let Step::Admitted(r) = s else {
-            return Walked {
-                state: with_fit(m, f),
-                outcome: Ok(ended_after(count, max_iter, Reason::Inadmissible)),
-            };
+            return (f, ended_after(count, max_iter, Reason::Inadmissible));
         };
         f = fit_after(m.len, a, f, r);
         if number::abs(p - r.p_1) < m.epsilon {
-            return Walked {
-                state: with_fit(m, f),
-                outcome: Ok(ended_after(count, max_iter, Reason::Settled)),
-            };
+            return (f, ended_after(count, max_iter, Reason::Settled));
         }
         mu = r.mu_2;
         p = r.p_1;
@@ -313,13 +307,7 @@ fn walk(m: M2N, variant: Variant, mu_2: f64, p_1: f64) -> Walked
         count = t.count;
         seen = t.seen;
     }
-    Walked {
-        state: with_fit(m, f),
-        outcome: Ok(Ended {
-            count,
-            reason: Reason::Spent,
-        }),
-    }
+    (f, ended_after(count, max_iter, Reason::Spent))
 }
 
 // Iterates the variant's step from a mean and a weight.
@@ -328,7 +316,13 @@ pub fn iterate_from(m: M2N, mu_2: f64, p_1: f64) -> Walked
     ensures { result ≡ walk_of m mu_2 p_1 }
 {
     match check(m, p_1) {
-        Ok(variant) => walk(m, variant, mu_2, p_1),
+        Ok(variant) => {
+            let (fit, ended) = walk(m, variant, mu_2, p_1);
+            Walked {
+                state: with_fit(m, fit),
+                outcome: Ok(ended),
+            }
+        }
         Err(refusal) => Walked {
             state: m,
             outcome: Err(refusal),
