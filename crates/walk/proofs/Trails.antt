@@ -29,7 +29,7 @@ use Rattle.walk.proofs.Sums.{error_is}
 use Rattle.walk.specs.Parts.{chosen, ended_after, fit_after, fit_part, variant_unless, walk_variant, walked_to, with_fit_of}
 use Rattle.walk.specs.Trail.{settled, step_for, trail_from}
 use Rattle.walk.specs.Variants.{variant_number}
-use Rattle.walk.specs.Walk.{later_refusal, needed_by, squares, better, keep_of, keep_all, trail_of, stopped, walk_refusal, answered, walk_of}
+use Rattle.walk.specs.Walk.{Walked, later_refusal, needed_by, squares, better, keep_of, keep_all, trail_of, stopped, walk_refusal, answered, walk_of}
 use Rattle.walk.specs.declared.M2N.{M2N}
 use Rattle.walk.specs.declared.Fit.{Fit}
 use Rattle.walk.specs.declared.Ended.{Ended}
@@ -37,7 +37,6 @@ use Rattle.walk.specs.declared.Reason.TheVariants as reason
 use Rattle.walk.specs.declared.Reason.TheVariants.{Spent, Settled}
 use Rattle.walk.specs.declared.Variant.{Variant}
 use Rattle.walk.specs.declared.Variant.TheVariants.{FourMoments, FiveMoments}
-use Rattle.walk.specs.declared.Walked.{Walked}
 
 -- the entries of a trail counted one after another
 abbrev pub counted : ℕ → List Step → ℕ

@@ -8,7 +8,7 @@ use Rattle.moments.specs.declared.Params.{Params}
 use Rattle.refusal.specs.Numbers.{unless_refused}
 use Rattle.refusal.specs.declared.Refusal.{Refusal}
 use Rattle.walk.specs.Variants.{variant_number, variant_of}
-use Rattle.walk.specs.Walk.{later_refusal, needed_by, squares, with_fit}
+use Rattle.walk.specs.Walk.{Walked, later_refusal, needed_by, squares, with_fit}
 use Rattle.walk.specs.declared.M2N.{M2N}
 use Rattle.walk.specs.declared.Ended.{Ended}
 use Rattle.walk.specs.declared.Fit.{Fit}
@@ -17,7 +17,6 @@ use Rattle.walk.specs.declared.Reason.TheVariants.{Spent}
 use Rattle.walk.specs.declared.Seen.{Seen}
 use Rattle.walk.specs.declared.Turn.{Turn}
 use Rattle.walk.specs.declared.Variant.{Variant}
-use Rattle.walk.specs.declared.Walked.{Walked}
 
 -- the fit part of a state
 abbrev pub fit_part : M2N → Fit

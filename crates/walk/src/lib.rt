@@ -139,12 +139,14 @@ pub struct Ended {
     pub reason: Reason,
 }
 
-// The state after a walk, and how it went.
+// The state after a walk or a search, and how it went.
 #[derive(Clone, Copy)]
-pub struct Walked {
+pub struct After<T> {
     pub state: M2N,
-    pub outcome: Result<Ended, Refusal>,
+    pub outcome: Result<T, Refusal>,
 }
+
+pub type Walked = After<Ended>;
 
 // The moments that a step reads.
 pub fn first_five(m: M2N) -> Five
