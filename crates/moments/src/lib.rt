@@ -47,12 +47,13 @@ impl From<[f64; 5]> for Five {
     fn from(l: [f64; 5]) -> Five
         ensures { result ≡ five_of l }
     {
+        let [m_1, m_2, m_3, m_4, m_5] = l;
         Five {
-            m_1: l[0],
-            m_2: l[1],
-            m_3: l[2],
-            m_4: l[3],
-            m_5: l[4],
+            m_1,
+            m_2,
+            m_3,
+            m_4,
+            m_5,
         }
     }
 }
@@ -73,12 +74,13 @@ impl From<[f64; 5]> for Params {
     fn from(l: [f64; 5]) -> Params
         ensures { result ≡ params_of l }
     {
+        let [mu_1, mu_2, sigma_1, sigma_2, p_1] = l;
         Params {
-            mu_1: l[0],
-            mu_2: l[1],
-            sigma_1: l[2],
-            sigma_2: l[3],
-            p_1: l[4],
+            mu_1,
+            mu_2,
+            sigma_1,
+            sigma_2,
+            p_1,
         }
     }
 }
@@ -174,8 +176,8 @@ pub fn centered_moment(moments: &[f64], order: usize) -> Result<f64, Refusal>
     ensures { result ≡ centred_moment moments.now order }
 {
     check_centred(moments.len(), order)?;
-    let mut moment_c = 0.0;
-    for j in 0..order + 1 {
+    let mut moment_c = 0.0; // no `sum()`: that starts at -0
+    for j in 0..=order {
         let sign = number::powi(-1.0, j);
         let combin = comb(order, j);
         let p = number::powi(moments[0], j);
@@ -190,8 +192,8 @@ fn raw_one(central: &[f64], mean: f64, n: usize) -> f64
     requires { (n ≤ length central.now) × (n ≤ 16) }
     ensures { result ≡ raw_sum central.now mean n }
 {
-    let mut moment_n = 0.0;
-    for k in 0..n + 1 {
+    let mut moment_n = 0.0; // no `sum()`: that starts at -0
+    for k in 0..=n {
         let combin = comb(n, k);
         let ck = numbered_at(central, k);
         let p = number::powi(mean, n - k);

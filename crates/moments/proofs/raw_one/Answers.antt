@@ -14,6 +14,6 @@ pub loop-k-preserved : goal.loop-k-preserved
 loop-k-preserved c =
     raw_turn _ _ _ c.loop-k.k _ _ _ _ c.loop-k.invariant c.comb-combin.ensures c.numbered_at-ck.ensures c.powi-p.ensures
 
-pub returns : goal.returns
-returns c = let e : c.loop-k.k ≡ c.args.n + 1 = omega arith in
-    raw_end _ _ _ c.loop-k.k _ e c.loop-k.invariant
+pub returns-2 : goal.returns-2
+returns-2 c = let e : c.loop-k.k + 1 ≡ c.args.n + 1 = omega arith in
+    raw_end _ _ _ (c.loop-k.k + 1) _ e (raw_turn _ _ _ c.loop-k.k _ _ _ _ c.loop-k.invariant c.comb-combin.ensures c.numbered_at-ck.ensures c.powi-p.ensures)
