@@ -17,6 +17,7 @@ use step::Step;
 
 // The fit state: the target moments (the first `len` of 16), the settings, and the best fit so far. The
 // moments are an array and a length, since a state is a value of one size, with no heap, and is lent to C.
+// The last three are a `Fit`; they stand flat, as the Rust's state has them.
 #[derive(Clone, Copy)]
 pub struct M2N {
     pub moments: [f64; 16],
