@@ -5,7 +5,7 @@ ghost use Rattle.std.specs.Prelude.{◌≡◌, ◌≤◌, length, get_or};
 ghost use Rattle.std.specs.Float.{nan};
 ghost use Rattle.moments.specs.Comb.{choose};
 ghost use Rattle.moments.specs.Lists.{five_of, listed, params_listed, params_of};
-ghost use Rattle.moments.specs.Mixture.{get_moments};
+ghost use Rattle.moments.specs.Mixture.{curve_moments, get_moments};
 ghost use Rattle.moments.specs.Orders.{numbered, raw_sum};
 ghost use Rattle.moments.specs.Refusals.{centred_moment, centred_refusal, length_refusal, raw_moment, raw_out, raw_refusal};
 
@@ -85,38 +85,38 @@ impl From<[f64; 5]> for Params {
     }
 }
 
+// The moments of one curve, with the powers as powi has them.
+fn curve(mu: f64, sigma: f64) -> Five
+    ensures { result ≡ curve_moments mu sigma }
+{
+    let mu_2 = mu * mu;
+    let mu_3 = mu * mu_2;
+    let mu_4 = mu_2 * mu_2;
+    let mu_5 = mu * mu_4;
+    let sigma_2 = sigma * sigma;
+    let sigma_4 = sigma_2 * sigma_2;
+    Five {
+        m_1: mu,
+        m_2: sigma_2 + mu_2,
+        m_3: 3.0 * sigma_2 * mu + mu_3,
+        m_4: 3.0 * sigma_4 + 6.0 * sigma_2 * mu_2 + mu_4,
+        m_5: 15.0 * sigma_4 * mu + 10.0 * sigma_2 * mu_3 + mu_5,
+    }
+}
+
 pub fn get_moments(p: Params) -> Five
     ensures { result ≡ get_moments p }
 {
-    let Params {
-        mu_1: u_1,
-        mu_2: u_2,
-        sigma_1: s_1,
-        sigma_2: s_2,
-        p_1,
-    } = p;
+    let p_1 = p.p_1;
     let p_2 = 1.0 - p_1;
-    // the powers, as powi has them
-    let s_1_2 = s_1 * s_1;
-    let s_2_2 = s_2 * s_2;
-    let u_1_2 = u_1 * u_1;
-    let u_2_2 = u_2 * u_2;
-    let u_1_3 = u_1 * u_1_2;
-    let u_2_3 = u_2 * u_2_2;
-    let s_1_4 = s_1_2 * s_1_2;
-    let s_2_4 = s_2_2 * s_2_2;
-    let u_1_4 = u_1_2 * u_1_2;
-    let u_2_4 = u_2_2 * u_2_2;
-    let u_1_5 = u_1 * u_1_4;
-    let u_2_5 = u_2 * u_2_4;
+    let a = curve(p.mu_1, p.sigma_1);
+    let b = curve(p.mu_2, p.sigma_2);
     Five {
-        m_1: p_1 * u_1 + p_2 * u_2,
-        m_2: p_1 * (s_1_2 + u_1_2) + p_2 * (s_2_2 + u_2_2),
-        m_3: p_1 * (3.0 * s_1_2 * u_1 + u_1_3) + p_2 * (3.0 * s_2_2 * u_2 + u_2_3),
-        m_4: p_1 * (3.0 * s_1_4 + 6.0 * s_1_2 * u_1_2 + u_1_4)
-            + p_2 * (3.0 * s_2_4 + 6.0 * s_2_2 * u_2_2 + u_2_4),
-        m_5: p_1 * (15.0 * s_1_4 * u_1 + 10.0 * s_1_2 * u_1_3 + u_1_5)
-            + p_2 * (15.0 * s_2_4 * u_2 + 10.0 * s_2_2 * u_2_3 + u_2_5),
+        m_1: p_1 * a.m_1 + p_2 * b.m_1,
+        m_2: p_1 * a.m_2 + p_2 * b.m_2,
+        m_3: p_1 * a.m_3 + p_2 * b.m_3,
+        m_4: p_1 * a.m_4 + p_2 * b.m_4,
+        m_5: p_1 * a.m_5 + p_2 * b.m_5,
     }
 }
 
