@@ -6,8 +6,7 @@ use lib.ListN.{length}
 use lib.Ieee.{Float}
 use borrow.Author.Tests.{lt-ltb, le-ltb}
 use Rattle.walk.specs.declared.M2N.{M2N}
-use Rattle.grid.specs.Search.{single_fit}
-use Rattle.grid.specs.declared.Fitted.{Fitted}
+use Rattle.grid.specs.Search.{Fitted, single_fit}
 use Rattle.std.proofs.Common.{Option, Err, ◌⊎◌, inl, inr}
 use Rattle.refusal.specs.declared.Refusal.TheVariants.{TooLittleRoom}
 use Rattle.capi.specs.Fits.{SingleFitLeaves, fitted, outcome_of, override_of}

@@ -6,8 +6,7 @@ use Rattle.refusal.specs.declared.Refusal.TheVariants.{TooLittleRoom}
 use Rattle.walk.specs.declared.M2N.{M2N}
 use Rattle.fit_runs.specs.Runs.{flat_fit}
 use Rattle.fit_runs.specs.declared.Flat.{Flat}
-use Rattle.grid.specs.Search.{single_fit}
-use Rattle.grid.specs.declared.Fitted.{Fitted}
+use Rattle.grid.specs.Search.{Fitted, single_fit}
 use Rattle.grid_rows.specs.FitResultRow.{six}
 use Rattle.grid_rows.specs.declared.FitResultRow.{FitResultRow}
 use Rattle.capi_states.specs.States.{state_of, with_front, with_state}

@@ -4,10 +4,9 @@ use Rattle.refusal.specs.Numbers.{status_of}
 use Rattle.refusal.specs.declared.Refusal.{Refusal}
 use Rattle.refusal.specs.declared.Refusal.TheVariants.{TooLittleRoom}
 use Rattle.walk.specs.Reasons.{number_of}
-use Rattle.walk.specs.Walk.{walk_of}
+use Rattle.walk.specs.Walk.{Walked, walk_of}
 use Rattle.walk.specs.declared.Ended.{Ended}
 use Rattle.walk.specs.declared.M2N.{M2N}
-use Rattle.walk.specs.declared.Walked.{Walked}
 use Rattle.capi_states.specs.States.{state_of, with_state}
 
 -- what stands in the lent places after: a refusal leaves them as they were

@@ -2,10 +2,9 @@
 use Rattle.std.specs.Prelude.{◌≡◌, false, ℕ, Ok}
 use Rattle.std.specs.Float.{nan, binary64}
 use Rattle.std.specs.Float.Ieee.{round}
-use Rattle.walk.specs.Walk.{walk_of}
+use Rattle.walk.specs.Walk.{Walked, walk_of}
 use Rattle.walk.specs.declared.M2N.{M2N}
 use Rattle.walk.specs.declared.Reason.TheVariants.{Settled, Spent}
-use Rattle.walk.specs.declared.Walked.{Walked}
 use Rattle.figures.specs.Figures.{◌·◌, params, five, listed, M}
 
 abbrev before : ℕ → ℕ → M2N

@@ -1,22 +1,19 @@
 -- What the grid and several runs turn away, in document 01's order. Definitions only.
 use Rattle.std.specs.Prelude.{List, Bool, true, ◌&&◌, ◌||◌, not, cond, ℕ, zero, suc, ◌*◌, ◌-◌, ltb, eqb, length, get_or, Float, Ok, Err}
 use Rattle.std.specs.Float.{nan}
-use Rattle.std.specs.Float.Ieee.{lt, le}
-use Rattle.float.specs.Constants.{nought, one}
+use Rattle.std.specs.Float.Ieee.{lt}
+use Rattle.float.specs.Constants.{nought}
 use Rattle.float.specs.Leaves.{finite}
 use Rattle.float.specs.Upper.{upper_of}
 use Rattle.refusal.specs.Numbers.{Checked}
 use Rattle.refusal.specs.declared.Refusal.TheVariants.{TooFewMoments, TooManyMoments, UnknownVariant, BadEpsilon, TooManyRows, TooFewWeights, BadWeight, TooLittleRoom, TooManyRuns}
+use Rattle.walk.specs.Walk.{is_weight}
 use Rattle.walk.specs.declared.M2N.{M2N}
 
 -- rows 1 to upper - 1
 unfoldable pub rows_of : Float → ℕ
 unfolding upper_of
 rows_of epsilon = upper_of epsilon - 1
-
--- a starting weight: at least 0 and below 1, so not NaN
-abbrev pub is_weight : Float → Bool
-is_weight p = le nought p && lt p one
 
 -- the first n are weights
 unfoldable pub all_weights : List Float → ℕ → Bool

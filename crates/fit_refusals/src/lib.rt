@@ -3,7 +3,8 @@
 
 ghost use Rattle.std.specs.Prelude.{◌≡◌, ◌≤◌};
 ghost use Rattle.std.specs.List.{list_all};
-ghost use Rattle.fit_refusals.specs.Refusals.{grid_refusal, is_spacing, is_weight, rows_of, rows_refusal, runs_refusal, weights_refusal};
+ghost use Rattle.fit_refusals.specs.Refusals.{grid_refusal, is_spacing, rows_of, rows_refusal, runs_refusal, weights_refusal};
+ghost use Rattle.walk.specs.Walk.{is_weight};
 
 use refusal::Refusal;
 use walk::{M2N, Variant};
@@ -16,17 +17,10 @@ pub fn rows_of(epsilon: f64) -> usize
     number::as_usize(number::larger(1.0 / epsilon, 1.0)) - 1
 }
 
-// At least 0 and below 1, so not NaN.
-fn is_weight(p_1: f64) -> bool
-    ensures { result ≡ is_weight p_1 }
-{
-    0.0 <= p_1 && p_1 < 1.0
-}
-
 fn are_weights(numbers: &[f64]) -> bool
     ensures { result ≡ list_all is_weight numbers.now }
 {
-    numbers.iter().all(|&p_1| is_weight(p_1))
+    numbers.iter().all(|&p_1| walk::is_weight(p_1))
 }
 
 #[tactic(auto, using(crate::proofs::Known::all_of_first))]
@@ -65,12 +59,7 @@ fn check_searches(m: M2N, epsilon: f64, runs: usize, weights: &[f64]) -> Result<
     requires { runs ≤ 64 }
     ensures { result ≡ grid_refusal m epsilon runs weights.now }
 {
-    if m.len < 5 {
-        return Err(Refusal::TooFewMoments);
-    }
-    if 16 < m.len {
-        return Err(Refusal::TooManyMoments);
-    }
+    moments::check_len(m.len, 5)?;
     Variant::try_from(m.variant)?;
     if !is_spacing(epsilon) {
         return Err(Refusal::BadEpsilon);

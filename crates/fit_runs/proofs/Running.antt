@@ -18,10 +18,9 @@ use Rattle.refusal.specs.declared.Refusal.{Refusal}
 use Rattle.refusal.specs.declared.Refusal.TheVariants.{TooManyRuns, TooLittleRoom}
 use Rattle.fit_refusals.specs.Refusals.{rows_of, grid_refusal, first_of, runs_refusal}
 use Rattle.fit_runs.specs.Runs.{Runnable, rows_out, rows_to, unrefused, run_rows, mp_fit, flat_of, flat_in64, rows_at, put_in, all_runs, flat_fit}
-use Rattle.grid.specs.Search.{single_fit}
+use Rattle.grid.specs.Search.{Fitted, single_fit}
 use Rattle.fit_runs.specs.declared.Flat.{Flat}
 use Rattle.grid_rows.specs.declared.FitResultRow.{FitResultRow}
-use Rattle.grid.specs.declared.Fitted.{Fitted}
 use Rattle.fit_runs.proofs.Flats.{length_flat_64, put_flat, rows_back}
 use Rattle.fit_refusals.proofs.Known.{grid_known}
 

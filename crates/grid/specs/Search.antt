@@ -6,13 +6,14 @@ use Rattle.std.specs.Float.Ieee.{eq}
 use Rattle.float.specs.Constants.{nought}
 use Rattle.float.specs.Root.{root}
 use Rattle.moments.specs.Orders.{centred_sum}
+use Rattle.walk.specs.declared.After.{After}
 use Rattle.walk.specs.declared.M2N.{M2N}
 use Rattle.fit_refusals.specs.Refusals.{rows_of, grid_refusal}
 use Rattle.grid_rows.specs.Rows.{search_to}
 use Rattle.grid_rows.specs.declared.Search.{Search}
 use Rattle.grid.specs.Rows.{begun, centred_state, moved_state, moved_best}
 use Rattle.grid.specs.declared.search.Searched.{Searched}
-use Rattle.grid.specs.declared.Fitted.{Fitted}
+use Rattle.grid_rows.specs.declared.FitResultRow.{FitResultRow}
 use Rattle.refusal.specs.Numbers.{Checked}
 
 -- the epsilon in force: one given for this search, or the state's own
@@ -47,6 +48,10 @@ is_centred m = eqb m.variant 2 && not (eq (get_or m.moments 0 nan) nought)
 unfoldable pub fit_of : M2N → Float → List Float → Searched
 unfolding plain_fit centred_fit
 fit_of m epsilon weights = cond (is_centred m) (centred_fit m epsilon weights) (plain_fit m epsilon weights)
+
+-- the state after a search, and how it went: at most one row, unless it was refused
+abbrev pub Fitted : Type 0
+Fitted = After (Option FitResultRow)
 
 abbrev pub answered : Checked → M2N → Searched → Fitted
 answered (Ok u) m s = record { state = s.state; outcome = Ok s.best }

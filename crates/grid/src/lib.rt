@@ -4,20 +4,15 @@
 ghost use Rattle.std.specs.Prelude.{◌≡◌};
 ghost use Rattle.grid.specs.Search.{single_fit};
 
-use refusal::Refusal;
-use walk::M2N;
+use walk::{After, M2N};
 
 pub mod rows; // rows.rt: where a search starts, and what is moved back to the mean after it
 pub mod search; // search.rt: a search that is not refused
 
 pub use grid_rows::FitResultRow;
 
-// The state after a search, and how it went: at most one row, unless it was refused.
-#[derive(Clone, Copy)]
-pub struct Fitted {
-    pub state: M2N,
-    pub outcome: Result<Option<FitResultRow>, Refusal>,
-}
+// A search leaves at most one row.
+pub type Fitted = After<Option<FitResultRow>>;
 
 // One search: the Rust's single_fit_loop, with starting weights from a lent list in place of draws. The
 // epsilon in force is the one given for this search, or the state's own.

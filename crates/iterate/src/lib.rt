@@ -13,12 +13,7 @@ fn read(moments: &[f64], needed: usize) -> Result<Five, Refusal>
     requires { needed ≤ 5 }
     ensures { result ≡ read moments.now needed }
 {
-    if moments.len() < needed {
-        return Err(Refusal::TooFewMoments);
-    }
-    if 16 < moments.len() {
-        return Err(Refusal::TooManyMoments);
-    }
+    moments::check_len(moments.len(), needed)?;
     let mut five = [0.0; 5];
     five[..needed].copy_from_slice(&moments[..needed]);
     Ok(Five::from(five))

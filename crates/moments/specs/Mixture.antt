@@ -1,8 +1,8 @@
 -- The raw moments of a mixture, from López de Prado and Foreman (2014), in the Rust's order of operations (get_moments). Definitions only.
-use Rattle.std.specs.Prelude.{List, [], ◌∷◌, get_or}
+use Rattle.std.specs.Prelude.{List, [], ◌∷◌, Float, get_or}
 use Rattle.std.specs.Float.{nan}
 use Rattle.float.specs.Constants as constants
-use Rattle.formula.specs.Formula.{Expr, given, var, const, ◌⊕◌, ◌⊖◌, ◌⊗◌, ◌↑◌, Stmt, ◌≔◌, Outcome, admitted, inadmissible, run}
+use Rattle.formula.specs.Formula.{Expr, given, var, const, ◌⊕◌, ◌⊖◌, ◌⊗◌, ◌↑◌, Stmt, ◌≔◌, Outcome, admitted, inadmissible, eval, run}
 use Rattle.moments.specs.Constants as numbers
 use Rattle.moments.specs.declared.Params.{Params}
 use Rattle.moments.specs.declared.Five.{Five}
@@ -58,15 +58,35 @@ abbrev 𝟏𝟎 : Expr
 abbrev 𝟏𝟓 : Expr
 𝟏𝟓 = const numbers.fifteen
 
+-- the second to the fifth moment of one curve; the first is u
+abbrev second : Expr → Expr → Expr
+second u s = s ↑ 2 ⊕ u ↑ 2
+
+abbrev third : Expr → Expr → Expr
+third u s = 𝟑 ⊗ s ↑ 2 ⊗ u ⊕ u ↑ 3
+
+abbrev fourth : Expr → Expr → Expr
+fourth u s = 𝟑 ⊗ s ↑ 4 ⊕ 𝟔 ⊗ s ↑ 2 ⊗ u ↑ 2 ⊕ u ↑ 4
+
+abbrev pub fifth : Expr → Expr → Expr
+fifth u s = 𝟏𝟓 ⊗ s ↑ 4 ⊗ u ⊕ 𝟏𝟎 ⊗ s ↑ 2 ⊗ u ↑ 3 ⊕ u ↑ 5
+
 unfoldable pub mixture : List Stmt
 mixture =
     p₂ ≔ 𝟏 ⊖ p₁
     ∷ m₁ ≔ p₁ ⊗ u₁ ⊕ p₂ ⊗ u₂
-    ∷ m₂ ≔ p₁ ⊗ (s₁ ↑ 2 ⊕ u₁ ↑ 2) ⊕ p₂ ⊗ (s₂ ↑ 2 ⊕ u₂ ↑ 2)
-    ∷ m₃ ≔ p₁ ⊗ (𝟑 ⊗ s₁ ↑ 2 ⊗ u₁ ⊕ u₁ ↑ 3) ⊕ p₂ ⊗ (𝟑 ⊗ s₂ ↑ 2 ⊗ u₂ ⊕ u₂ ↑ 3)
-    ∷ m₄ ≔ p₁ ⊗ (𝟑 ⊗ s₁ ↑ 4 ⊕ 𝟔 ⊗ s₁ ↑ 2 ⊗ u₁ ↑ 2 ⊕ u₁ ↑ 4) ⊕ p₂ ⊗ (𝟑 ⊗ s₂ ↑ 4 ⊕ 𝟔 ⊗ s₂ ↑ 2 ⊗ u₂ ↑ 2 ⊕ u₂ ↑ 4)
-    ∷ m₅ ≔ p₁ ⊗ (𝟏𝟓 ⊗ s₁ ↑ 4 ⊗ u₁ ⊕ 𝟏𝟎 ⊗ s₁ ↑ 2 ⊗ u₁ ↑ 3 ⊕ u₁ ↑ 5) ⊕ p₂ ⊗ (𝟏𝟓 ⊗ s₂ ↑ 4 ⊗ u₂ ⊕ 𝟏𝟎 ⊗ s₂ ↑ 2 ⊗ u₂ ↑ 3 ⊕ u₂ ↑ 5)
+    ∷ m₂ ≔ p₁ ⊗ second u₁ s₁ ⊕ p₂ ⊗ second u₂ s₂
+    ∷ m₃ ≔ p₁ ⊗ third u₁ s₁ ⊕ p₂ ⊗ third u₂ s₂
+    ∷ m₄ ≔ p₁ ⊗ fourth u₁ s₁ ⊕ p₂ ⊗ fourth u₂ s₂
+    ∷ m₅ ≔ p₁ ⊗ fifth u₁ s₁ ⊕ p₂ ⊗ fifth u₂ s₂
     ∷ []
+
+-- the five moments of one curve
+unfoldable pub curve_moments : Float → Float → Five
+unfolding eval
+curve_moments μ σ =
+    let value = λ (f : Expr → Expr → Expr). eval (μ ∷ σ ∷ []) [] (f (given 0) (given 1)) in
+    record { m_1 = μ; m_2 = value second; m_3 = value third; m_4 = value fourth; m_5 = value fifth }
 
 -- the moments of a run; the program has no test, so it always ends with all its variables
 abbrev pub moments_of : Outcome → Five

@@ -1,4 +1,4 @@
--- What centered_moment and raw_moment answer: document 01's refusals in its order, and otherwise the sums. Definitions only.
+-- What check_len, centered_moment and raw_moment answer: document 01's refusals in its order, and otherwise the sums. Definitions only.
 use Rattle.std.specs.Prelude.{List, ◌++◌, cond, ℕ, ltb, max, length, drop, Float, Result, Ok, Err}
 use Rattle.refusal.specs.Numbers.{Checked, unless_refused}
 use Rattle.refusal.specs.declared.Refusal.{Refusal}
@@ -9,12 +9,13 @@ use Rattle.moments.specs.Orders.{centred_sum, raw_value, firsts}
 abbrev pub at_least_one : ℕ → ℕ
 at_least_one n = max n 1
 
+-- fewer moments than are needed; more than 16
+abbrev pub length_refusal : ℕ → ℕ → Checked
+length_refusal len needed = cond (ltb len needed) (Err TooFewMoments) (cond (ltb 16 len) (Err TooManyMoments) (Ok tt))
+
 -- an order above 16; fewer moments than the larger of order and 1; more than 16
 abbrev pub centred_refusal : ℕ → ℕ → Checked
-centred_refusal len order =
-    cond (ltb 16 order) (Err OrderTooHigh)
-    (cond (ltb len (at_least_one order)) (Err TooFewMoments)
-    (cond (ltb 16 len) (Err TooManyMoments) (Ok tt)))
+centred_refusal len order = cond (ltb 16 order) (Err OrderTooHigh) (length_refusal len (at_least_one order))
 
 -- more than 16 centred moments; room below the larger of their number and 1
 abbrev pub raw_refusal : ℕ → ℕ → Checked

@@ -5,9 +5,9 @@ ghost use Rattle.std.specs.Prelude.{◌≡◌, ◌≤◌, length, get_or};
 ghost use Rattle.std.specs.Float.{nan};
 ghost use Rattle.moments.specs.Comb.{choose};
 ghost use Rattle.moments.specs.Lists.{five_of, listed, params_listed, params_of};
-ghost use Rattle.moments.specs.Mixture.{get_moments};
+ghost use Rattle.moments.specs.Mixture.{curve_moments, get_moments};
 ghost use Rattle.moments.specs.Orders.{numbered, raw_sum};
-ghost use Rattle.moments.specs.Refusals.{centred_moment, centred_refusal, raw_moment, raw_out, raw_refusal};
+ghost use Rattle.moments.specs.Refusals.{centred_moment, centred_refusal, length_refusal, raw_moment, raw_out, raw_refusal};
 
 use refusal::Refusal;
 
@@ -47,12 +47,13 @@ impl From<[f64; 5]> for Five {
     fn from(l: [f64; 5]) -> Five
         ensures { result ≡ five_of l }
     {
+        let [m_1, m_2, m_3, m_4, m_5] = l;
         Five {
-            m_1: l[0],
-            m_2: l[1],
-            m_3: l[2],
-            m_4: l[3],
-            m_5: l[4],
+            m_1,
+            m_2,
+            m_3,
+            m_4,
+            m_5,
         }
     }
 }
@@ -73,48 +74,49 @@ impl From<[f64; 5]> for Params {
     fn from(l: [f64; 5]) -> Params
         ensures { result ≡ params_of l }
     {
+        let [mu_1, mu_2, sigma_1, sigma_2, p_1] = l;
         Params {
-            mu_1: l[0],
-            mu_2: l[1],
-            sigma_1: l[2],
-            sigma_2: l[3],
-            p_1: l[4],
+            mu_1,
+            mu_2,
+            sigma_1,
+            sigma_2,
+            p_1,
         }
+    }
+}
+
+// The moments of one curve, with the powers as powi has them.
+fn curve(mu: f64, sigma: f64) -> Five
+    ensures { result ≡ curve_moments mu sigma }
+{
+    let mu_2 = mu * mu;
+    let mu_3 = mu * mu_2;
+    let mu_4 = mu_2 * mu_2;
+    let mu_5 = mu * mu_4;
+    let sigma_2 = sigma * sigma;
+    let sigma_4 = sigma_2 * sigma_2;
+    Five {
+        m_1: mu,
+        m_2: sigma_2 + mu_2,
+        m_3: 3.0 * sigma_2 * mu + mu_3,
+        m_4: 3.0 * sigma_4 + 6.0 * sigma_2 * mu_2 + mu_4,
+        m_5: 15.0 * sigma_4 * mu + 10.0 * sigma_2 * mu_3 + mu_5,
     }
 }
 
 pub fn get_moments(p: Params) -> Five
     ensures { result ≡ get_moments p }
 {
-    let Params {
-        mu_1: u_1,
-        mu_2: u_2,
-        sigma_1: s_1,
-        sigma_2: s_2,
-        p_1,
-    } = p;
+    let p_1 = p.p_1;
     let p_2 = 1.0 - p_1;
-    // the powers, as powi has them
-    let s_1_2 = s_1 * s_1;
-    let s_2_2 = s_2 * s_2;
-    let u_1_2 = u_1 * u_1;
-    let u_2_2 = u_2 * u_2;
-    let u_1_3 = u_1 * u_1_2;
-    let u_2_3 = u_2 * u_2_2;
-    let s_1_4 = s_1_2 * s_1_2;
-    let s_2_4 = s_2_2 * s_2_2;
-    let u_1_4 = u_1_2 * u_1_2;
-    let u_2_4 = u_2_2 * u_2_2;
-    let u_1_5 = u_1 * u_1_4;
-    let u_2_5 = u_2 * u_2_4;
+    let a = curve(p.mu_1, p.sigma_1);
+    let b = curve(p.mu_2, p.sigma_2);
     Five {
-        m_1: p_1 * u_1 + p_2 * u_2,
-        m_2: p_1 * (s_1_2 + u_1_2) + p_2 * (s_2_2 + u_2_2),
-        m_3: p_1 * (3.0 * s_1_2 * u_1 + u_1_3) + p_2 * (3.0 * s_2_2 * u_2 + u_2_3),
-        m_4: p_1 * (3.0 * s_1_4 + 6.0 * s_1_2 * u_1_2 + u_1_4)
-            + p_2 * (3.0 * s_2_4 + 6.0 * s_2_2 * u_2_2 + u_2_4),
-        m_5: p_1 * (15.0 * s_1_4 * u_1 + 10.0 * s_1_2 * u_1_3 + u_1_5)
-            + p_2 * (15.0 * s_2_4 * u_2 + 10.0 * s_2_2 * u_2_3 + u_2_5),
+        m_1: p_1 * a.m_1 + p_2 * b.m_1,
+        m_2: p_1 * a.m_2 + p_2 * b.m_2,
+        m_3: p_1 * a.m_3 + p_2 * b.m_3,
+        m_4: p_1 * a.m_4 + p_2 * b.m_4,
+        m_5: p_1 * a.m_5 + p_2 * b.m_5,
     }
 }
 
@@ -148,13 +150,11 @@ fn numbered_at(m: &[f64], k: usize) -> f64
     m[k - 1]
 }
 
-fn check_centred(len: usize, order: usize) -> Result<(), Refusal>
-    ensures { result ≡ centred_refusal len order }
+// At least as many moments as are needed, and no more than 16.
+pub fn check_len(len: usize, needed: usize) -> Result<(), Refusal>
+    ensures { result ≡ length_refusal len needed }
 {
-    if 16 < order {
-        return Err(Refusal::OrderTooHigh);
-    }
-    if len < order.max(1) {
+    if len < needed {
         return Err(Refusal::TooFewMoments);
     }
     if 16 < len {
@@ -163,13 +163,22 @@ fn check_centred(len: usize, order: usize) -> Result<(), Refusal>
     Ok(())
 }
 
+fn check_centred(len: usize, order: usize) -> Result<(), Refusal>
+    ensures { result ≡ centred_refusal len order }
+{
+    if 16 < order {
+        return Err(Refusal::OrderTooHigh);
+    }
+    check_len(len, order.max(1))
+}
+
 // The centred moment of an order, from raw moments.
 pub fn centered_moment(moments: &[f64], order: usize) -> Result<f64, Refusal>
     ensures { result ≡ centred_moment moments.now order }
 {
     check_centred(moments.len(), order)?;
-    let mut moment_c = 0.0;
-    for j in 0..order + 1 {
+    let mut moment_c = 0.0; // no `sum()`: that starts at -0
+    for j in 0..=order {
         let sign = number::powi(-1.0, j);
         let combin = comb(order, j);
         let p = number::powi(moments[0], j);
@@ -185,8 +194,8 @@ fn raw_one(central: &[f64], mean: f64, n: usize) -> f64
     requires { (n ≤ length central.now) × (n ≤ 16) }
     ensures { result ≡ raw_sum central.now mean n }
 {
-    let mut moment_n = 0.0;
-    for k in 0..n + 1 {
+    let mut moment_n = 0.0; // no `sum()`: that starts at -0
+    for k in 0..=n {
         let combin = comb(n, k);
         let ck = numbered_at(central, k);
         let p = number::powi(mean, n - k);

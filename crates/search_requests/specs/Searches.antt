@@ -2,8 +2,7 @@
 use Rattle.std.specs.Prelude.{ℕ, ◌-◌, ◌^◌, List, Float, Option, Some, None, length, replicate, take}
 use Rattle.float.specs.Constants.{nought}
 use Rattle.grid_rows.specs.declared.FitResultRow.{FitResultRow}
-use Rattle.grid.specs.Search.{single_fit}
-use Rattle.grid.specs.declared.Fitted.{Fitted}
+use Rattle.grid.specs.Search.{Fitted, single_fit}
 use Rattle.text.specs.Bytes.{bytes}
 use Rattle.text.specs.Decode.{Got, got, bad, word}
 use Rattle.protocol.specs.Words.{next_fraction, next_natural}

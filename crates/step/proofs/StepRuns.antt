@@ -86,6 +86,10 @@ ran {g} h e = subst (CurvesFrom g) e h
 pub not_ran : (g : List Float) {r : Option Curves} → CurvesFrom g r → r ≡ None → run curves g [] ≡ inadmissible
 not_ran g h e = subst (CurvesFrom g) e h
 
+-- stopped after the first half, for the step that this is
+pub stops_as : (k : Kind) {g : List Float} {s : Step} {r : Option Curves} {c : Curves} → step_by k g ≡ s → (h : CurvesFrom g r) (e : r ≡ Some c) → Runs g k.between (variables (ran h e)) inadmissible → Inadmissible ≡ s
+stops_as k {g} i h e r = stopped_later k g (ran h e) r ∙ i
+
 -- ---- each step
 pub is_4 : (ms : List Float) (μ p : Float) → step_by kind_4 (μ ∷ p ∷ ms) ≡ step_4 ms μ p
 unfolding step_4 between_4

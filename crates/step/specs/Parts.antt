@@ -3,8 +3,9 @@ use Rattle.std.specs.Prelude.{◌≡◌, not, ◌&&◌, cond, List, [], ◌∷�
 use Rattle.std.specs.Float.Ieee.{le}
 use Rattle.float.specs.Constants.{nought, one}
 use Rattle.formula.specs.Formula.{given, admitted, inadmissible, eval, run, untested}
+use Rattle.moments.specs.Mixture.{fifth}
 use Rattle.moments.specs.declared.Params.{Params}
-use Rattle.step.specs.Steps.{curves, fifth, μ₁, den₂₄, σ₂²}
+use Rattle.step.specs.Steps.{curves, μ₁, den₂₄, σ₂²}
 use Rattle.step.specs.declared.Step.{Step}
 use Rattle.step.specs.declared.Step.TheVariants as step
 use Rattle.step.specs.declared.curves.Curves.{Curves}

@@ -4,6 +4,7 @@ use Rattle.std.specs.Float.{nan}
 use Rattle.float.specs.Constants as constants
 use Rattle.formula.specs.Formula.{Expr, given, var, const, ◌⊕◌, ◌⊖◌, ◌⊗◌, ◌⊘◌, ◌↑◌, √◌, is_zero, is_negative, not_finite, outside_unit, is_below, Stmt, ◌≔◌, fail, Outcome, admitted, inadmissible, eval, run, untested}
 use Rattle.moments.specs.Constants as numbers
+use Rattle.moments.specs.Mixture.{fifth}
 use Rattle.step.specs.Constants as steps
 use Rattle.step.specs.declared.Step.{Step}
 use Rattle.step.specs.declared.Step.TheVariants.{Admitted, Inadmissible}
@@ -20,12 +21,6 @@ abbrev 𝟑 : Expr
 
 abbrev 𝟔 : Expr
 𝟔 = const numbers.six
-
-abbrev 𝟏𝟎 : Expr
-𝟏𝟎 = const numbers.ten
-
-abbrev 𝟏𝟓 : Expr
-𝟏𝟓 = const numbers.fifteen
 
 -- the pair and the moments, which are given
 abbrev pub μ₂ : Expr
@@ -120,10 +115,6 @@ iter_4 =
     ∷ p₁' ≔ (m₄ ⊖ 𝟑 ⊗ σ₂ ↑ 4 ⊖ 𝟔 ⊗ σ₂ ↑ 2 ⊗ μ₂ ↑ 2 ⊖ μ₂ ↑ 4) ⊘ deno
     ∷ fail (outside_unit p₁')
     ∷ []
-
--- the fifth moment of a curve
-abbrev pub fifth : Expr → Expr → Expr
-fifth μ σ = 𝟏𝟓 ⊗ σ ↑ 4 ⊗ μ ⊕ 𝟏𝟎 ⊗ σ ↑ 2 ⊗ μ ↑ 3 ⊕ μ ↑ 5
 
 unfoldable pub iter_5 : List Stmt
 unfolding curves

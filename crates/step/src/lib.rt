@@ -31,7 +31,8 @@ fn weighed(r: Params) -> Step
     }
 }
 
-// The step on the first four of five moments.
+// The step on the first four of five moments. Moments, mean and weight stand one by one, as the Rust's
+// iter_4 and iter_5 take them.
 pub fn four(m: Five, mu_2: f64, p_1: f64) -> Step
     ensures { result ≡ step_4 (m.m_1 ∷ m.m_2 ∷ m.m_3 ∷ m.m_4 ∷ []) mu_2 p_1 }
 {
@@ -68,7 +69,7 @@ pub fn four(m: Five, mu_2: f64, p_1: f64) -> Step
     })
 }
 
-// The fifth moment of a curve.
+// The fifth moment of a curve by itself: a step needs no other, and `get_moments` needs all.
 fn fifth(mu: f64, sigma: f64) -> f64
     ensures { result ≡ fifth_moment mu sigma }
 {

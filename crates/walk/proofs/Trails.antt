@@ -26,10 +26,10 @@ use Rattle.step.specs.Steps.{sigma2_squared}
 use Rattle.step.specs.declared.Step.{Step}
 use Rattle.step.specs.declared.Step.TheVariants.{Admitted, Inadmissible}
 use Rattle.walk.proofs.Sums.{error_is}
-use Rattle.walk.specs.Parts.{chosen, ended_after, fit_after, fit_part, variant_unless, walk_variant, with_fit_of}
+use Rattle.walk.specs.Parts.{chosen, ended_after, fit_after, fit_part, variant_unless, walk_variant, walked_to, with_fit_of}
 use Rattle.walk.specs.Trail.{settled, step_for, trail_from}
 use Rattle.walk.specs.Variants.{variant_number}
-use Rattle.walk.specs.Walk.{later_refusal, needed_by, squares, better, keep_of, keep_all, trail_of, stopped, walk_refusal, answered, walk_of}
+use Rattle.walk.specs.Walk.{Walked, later_refusal, needed_by, squares, better, keep_of, keep_all, trail_of, stopped, walk_refusal, answered, walk_of}
 use Rattle.walk.specs.declared.M2N.{M2N}
 use Rattle.walk.specs.declared.Fit.{Fit}
 use Rattle.walk.specs.declared.Ended.{Ended}
@@ -37,7 +37,6 @@ use Rattle.walk.specs.declared.Reason.TheVariants as reason
 use Rattle.walk.specs.declared.Reason.TheVariants.{Spent, Settled}
 use Rattle.walk.specs.declared.Variant.{Variant}
 use Rattle.walk.specs.declared.Variant.TheVariants.{FourMoments, FiveMoments}
-use Rattle.walk.specs.declared.Walked.{Walked}
 
 -- the entries of a trail counted one after another
 abbrev pub counted : ℕ → List Step → ℕ
@@ -107,21 +106,21 @@ fit_on len ms a f g r ha hg = hg ∙ ap (λ x. fit_after len x f r) ha
 pub settled_on : (ε p p' d : Float) (b : Bool) → d ≡ abs_of (sub binary64 p p') → lt d ε ≡ b → settled ε p p' ≡ b
 settled_on ε p p' d b hd hb = ap (λ x. lt x ε) (sym hd) ∙ hb
 
-pub spent : (m : M2N) (f : Fit) (k : ℕ) (μ p : Float) (x : M2N) → k ≡ m.max_iter → x ≡ with_fit_of m f → record { state = x; outcome = Ok (record { count = k; reason = Spent }) } ≡ left_of m f k μ p
+pub spent : (m : M2N) (f : Fit) (k : ℕ) (μ p : Float) (q : Ended) → k ≡ m.max_iter → q ≡ ended_after k m.max_iter Spent → walked_to m f q ≡ left_of m f k μ p
 unfolding trail_from keep_all
-spent m f k μ p x h hx = rw (all_less m.max_iter k h, eq-eqb k m.max_iter h, hx)
+spent m f k μ p q h hq = rw (hq, all_less m.max_iter k h, eq-eqb k m.max_iter h)
 
-pub turned_away : (m : M2N) (f : Fit) (k : ℕ) (μ p : Float) (x : M2N) (q : Ended) → k < m.max_iter → step_for m.variant m.moments μ p ≡ Inadmissible → x ≡ with_fit_of m f → q ≡ ended_after (k + 1) m.max_iter reason.Inadmissible → record { state = x; outcome = Ok q } ≡ left_of m f k μ p
+pub turned_away : (m : M2N) (f : Fit) (k : ℕ) (μ p : Float) (q : Ended) → k < m.max_iter → step_for m.variant m.moments μ p ≡ Inadmissible → q ≡ ended_after (k + 1) m.max_iter reason.Inadmissible → walked_to m f q ≡ left_of m f k μ p
 unfolding keep_all keep_of
-turned_away m f k μ p x q h e hx hq =
+turned_away m f k μ p q h e hq =
     let n = m.max_iter - (k + 1) in
-    rw (one_less m.max_iter k h, out (step_for m.variant m.moments) m.epsilon n μ p e, hx, hq)
+    rw (one_less m.max_iter k h, out (step_for m.variant m.moments) m.epsilon n μ p e, hq)
 
-pub settles : (m : M2N) (f g : Fit) (k : ℕ) (μ p : Float) (r : Params) (x : M2N) (q : Ended) → k < m.max_iter → step_for m.variant m.moments μ p ≡ Admitted r → g ≡ fit_after m.len (five_of m.moments) f r → settled m.epsilon p r.p_1 ≡ true → x ≡ with_fit_of m g → q ≡ ended_after (k + 1) m.max_iter Settled → record { state = x; outcome = Ok q } ≡ left_of m f k μ p
+pub settles : (m : M2N) (f g : Fit) (k : ℕ) (μ p : Float) (r : Params) (q : Ended) → k < m.max_iter → step_for m.variant m.moments μ p ≡ Admitted r → g ≡ fit_after m.len (five_of m.moments) f r → settled m.epsilon p r.p_1 ≡ true → q ≡ ended_after (k + 1) m.max_iter Settled → walked_to m g q ≡ left_of m f k μ p
 unfolding keep_all
-settles m f g k μ p r x q h e hg s hx hq =
+settles m f g k μ p r q h e hg s hq =
     let n = m.max_iter - (k + 1) in
-    rw (one_less m.max_iter k h, on (step_for m.variant m.moments) m.epsilon n μ p r e, s, keeps m f r, hx, hg, hq)
+    rw (one_less m.max_iter k h, on (step_for m.variant m.moments) m.epsilon n μ p r e, s, keeps m f r, hg, hq)
 
 pub goes_on : (m : M2N) (f g : Fit) (k : ℕ) (μ p : Float) (r : Params) → k < m.max_iter → step_for m.variant m.moments μ p ≡ Admitted r → g ≡ fit_after m.len (five_of m.moments) f r → settled m.epsilon p r.p_1 ≡ false → left_of m f k μ p ≡ left_of m g (k + 1) r.mu_2 r.p_1
 unfolding keep_all

@@ -8,7 +8,7 @@ use Rattle.moments.specs.declared.Params.{Params}
 use Rattle.refusal.specs.Numbers.{unless_refused}
 use Rattle.refusal.specs.declared.Refusal.{Refusal}
 use Rattle.walk.specs.Variants.{variant_number, variant_of}
-use Rattle.walk.specs.Walk.{later_refusal, needed_by, squares, with_fit}
+use Rattle.walk.specs.Walk.{Walked, later_refusal, needed_by, squares, with_fit}
 use Rattle.walk.specs.declared.M2N.{M2N}
 use Rattle.walk.specs.declared.Ended.{Ended}
 use Rattle.walk.specs.declared.Fit.{Fit}
@@ -46,6 +46,10 @@ walk_variant m p = variant_unless (variant_of m.variant) m.len p
 -- how a walk ended that was stopped so: spent where the count is the limit
 abbrev pub ended_after : ℕ → ℕ → Reason → Ended
 ended_after count limit stopped = record { count = count; reason = cond (eqb count limit) Spent stopped }
+
+-- the answer of a walk of a state that left a fit and ended so
+abbrev pub walked_to : M2N → Fit → Ended → Walked
+walked_to m f e = record { state = with_fit_of m f; outcome = Ok e }
 
 -- one turn of the walk's count: as it was; or with another pair to look out for; or, where the pair is the one looked out for, with whole rounds counted
 pub data Turned (count limit : ℕ) (μ p : Float) (seen : Seen) (r : Turn) : Type 0 where

@@ -17,7 +17,8 @@ use Rattle.walk.specs.declared.M2N.{M2N}
 use Rattle.walk.specs.declared.Reason.{Reason}
 use Rattle.walk.specs.declared.Reason.TheVariants as reason
 use Rattle.walk.specs.declared.Reason.TheVariants.{Spent, Settled}
-use Rattle.walk.specs.declared.Walked.{Walked}
+use Rattle.walk.specs.declared.After.{After}
+use Rattle.walk.specs.declared.Ended.{Ended}
 
 -- (a - b)²
 abbrev pub squared : Float → Float → Float
@@ -83,15 +84,23 @@ reason_of limit t = cond (eqb (length t) limit) Spent (stopped t)
 abbrev pub needed_by : ℕ → ℕ
 needed_by variant = cond (eqb variant 1) 4 5
 
+-- a starting weight: at least 0 and below 1, so not NaN
+abbrev pub is_weight : Float → Bool
+is_weight p = le nought p && lt p one
+
 abbrev pub later_refusal : ℕ → ℕ → Float → Checked
 later_refusal len needed p =
     cond (ltb len needed) (Err TooFewMoments)
     (cond (ltb 16 len) (Err TooManyMoments)
-    (cond (le nought p && lt p one) (Ok tt) (Err BadWeight)))
+    (cond (is_weight p) (Ok tt) (Err BadWeight)))
 
 -- variant not 1 or 2; fewer than 4 moments (variant 2: 5); more than 16; weight not at least 0 and below 1
 unfoldable pub walk_refusal : M2N → Float → Checked
 walk_refusal m p = cond (not (eqb m.variant 1 || eqb m.variant 2)) (Err UnknownVariant) (later_refusal m.len (needed_by m.variant) p)
+
+-- the state after a walk, and how it went
+abbrev pub Walked : Type 0
+Walked = After Ended
 
 abbrev pub answered : Checked → M2N → M2N → List Step → Walked
 answered (Ok u) m kept t = record { state = kept; outcome = Ok (record { count = length t; reason = reason_of m.max_iter t }) }

@@ -4,12 +4,12 @@
 
 ghost use Rattle.std.specs.Prelude.{◌≡◌, true, ◌≤◌, ◌<◌, min, Ok};
 ghost use Rattle.moments.specs.Lists.{five_of, listed};
-ghost use Rattle.walk.specs.Parts.{Turned, ended_after, fit_after, fit_part, walk_variant, with_fit_of};
+ghost use Rattle.walk.specs.Parts.{Turned, ended_after, fit_after, fit_part, walk_variant, walked_to, with_fit_of};
 ghost use Rattle.walk.specs.Reasons.{number_of};
 ghost use Rattle.walk.specs.Squares.{squares_summed};
 ghost use Rattle.walk.specs.Trail.{step_for};
 ghost use Rattle.walk.specs.Variants.{variant_number, variant_of};
-ghost use Rattle.walk.specs.Walk.{needed_by, squares, walk_of, walk_refusal};
+ghost use Rattle.walk.specs.Walk.{is_weight, needed_by, squares, walk_of, walk_refusal};
 
 use moments::{Five, Params};
 use refusal::Refusal;
@@ -17,6 +17,7 @@ use step::Step;
 
 // The fit state: the target moments (the first `len` of 16), the settings, and the best fit so far. The
 // moments are an array and a length, since a state is a value of one size, with no heap, and is lent to C.
+// The last three are a `Fit`; they stand flat, as the Rust's state has them.
 #[derive(Clone, Copy)]
 pub struct M2N {
     pub moments: [f64; 16],
@@ -139,12 +140,14 @@ pub struct Ended {
     pub reason: Reason,
 }
 
-// The state after a walk, and how it went.
+// The state after a walk or a search, and how it went.
 #[derive(Clone, Copy)]
-pub struct Walked {
+pub struct After<T> {
     pub state: M2N,
-    pub outcome: Result<Ended, Refusal>,
+    pub outcome: Result<T, Refusal>,
 }
+
+pub type Walked = After<Ended>;
 
 // The moments that a step reads.
 pub fn first_five(m: M2N) -> Five
@@ -215,21 +218,23 @@ fn with_fit(m: M2N, f: Fit) -> M2N
     }
 }
 
+// Whether a walk may start at the weight: at least 0 and below 1, so not NaN.
+pub fn is_weight(p_1: f64) -> bool
+    ensures { result ≡ is_weight p_1 }
+{
+    0.0 <= p_1 && p_1 < 1.0
+}
+
 // The state's variant, or document 01's refusals of a walk, in its order.
 fn check(m: M2N, p_1: f64) -> Result<Variant, Refusal>
     ensures { result ≡ walk_variant m p_1 }
 {
     let variant = Variant::try_from(m.variant)?;
-    if m.len < variant.needed() {
-        return Err(Refusal::TooFewMoments);
+    moments::check_len(m.len, variant.needed())?;
+    if !is_weight(p_1) {
+        return Err(Refusal::BadWeight);
     }
-    if 16 < m.len {
-        return Err(Refusal::TooManyMoments);
-    }
-    if 0.0 <= p_1 && p_1 < 1.0 {
-        return Ok(variant);
-    }
-    Err(Refusal::BadWeight)
+    Ok(variant)
 }
 
 // It is spent whenever the count equals the limit; otherwise the reason is what stopped it.
@@ -278,9 +283,9 @@ fn count_rounds(count: usize, max_iter: usize, mu: f64, p: f64, seen: Seen) -> T
 
 // The walk of a state that is not refused. `max_iter` is the budget. A turn may count whole rounds, so
 // the loop is no `for` over its turns.
-fn walk(m: M2N, variant: Variant, mu_2: f64, p_1: f64) -> Walked
+fn walk(m: M2N, variant: Variant, mu_2: f64, p_1: f64) -> (Fit, Ended)
     requires { (variant_number variant ≡ m.variant) × (Ok tt ≡ walk_refusal m p_1) }
-    ensures { result ≡ walk_of m mu_2 p_1 }
+    ensures { walked_to m result.0 result.1 ≡ walk_of m mu_2 p_1 }
 {
     let a = first_five(m);
     let max_iter = m.max_iter;
@@ -293,17 +298,11 @@ fn walk(m: M2N, variant: Variant, mu_2: f64, p_1: f64) -> Walked
         let s = variant.step(a, mu, p);
         count += 1;
         let Step::Admitted(r) = s else {
-            return Walked {
-                state: with_fit(m, f),
-                outcome: Ok(ended_after(count, max_iter, Reason::Inadmissible)),
-            };
+            return (f, ended_after(count, max_iter, Reason::Inadmissible));
         };
         f = fit_after(m.len, a, f, r);
         if number::abs(p - r.p_1) < m.epsilon {
-            return Walked {
-                state: with_fit(m, f),
-                outcome: Ok(ended_after(count, max_iter, Reason::Settled)),
-            };
+            return (f, ended_after(count, max_iter, Reason::Settled));
         }
         mu = r.mu_2;
         p = r.p_1;
@@ -311,13 +310,7 @@ fn walk(m: M2N, variant: Variant, mu_2: f64, p_1: f64) -> Walked
         count = t.count;
         seen = t.seen;
     }
-    Walked {
-        state: with_fit(m, f),
-        outcome: Ok(Ended {
-            count,
-            reason: Reason::Spent,
-        }),
-    }
+    (f, ended_after(count, max_iter, Reason::Spent))
 }
 
 // Iterates the variant's step from a mean and a weight.
@@ -326,7 +319,13 @@ pub fn iterate_from(m: M2N, mu_2: f64, p_1: f64) -> Walked
     ensures { result ≡ walk_of m mu_2 p_1 }
 {
     match check(m, p_1) {
-        Ok(variant) => walk(m, variant, mu_2, p_1),
+        Ok(variant) => {
+            let (fit, ended) = walk(m, variant, mu_2, p_1);
+            Walked {
+                state: with_fit(m, fit),
+                outcome: Ok(ended),
+            }
+        }
         Err(refusal) => Walked {
             state: m,
             outcome: Err(refusal),

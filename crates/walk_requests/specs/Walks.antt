@@ -5,10 +5,10 @@ use Rattle.text.specs.Decode.{Got}
 use Rattle.protocol.specs.Words.{next_fraction, next_natural}
 use Rattle.protocol_lists.specs.Lists.{fraction_list, in_front, next_state}
 use Rattle.walk.specs.Parts.{fit_part}
+use Rattle.walk.specs.Walk as walked
 use Rattle.walk.specs.Walk.{walk_of}
 use Rattle.walk.specs.declared.Fit.{Fit}
 use Rattle.walk.specs.declared.M2N.{M2N}
-use Rattle.walk.specs.declared.Walked as walked
 use Rattle.replies.specs.Requests.{◌>>=◌, named, or_refused, reply}
 use Rattle.replies.specs.declared.forms.Reply.{Reply}
 use Rattle.replies.specs.declared.forms.Reply.TheVariants.{Walked}

@@ -23,7 +23,9 @@ unfolding of_bits neg
 loop-j-preserved c =
     centred_turn _ _ c.loop-j.j _ _ _ _ _ c.loop-j.invariant c.powi-sign.ensures c.comb-combin.ensures c.powi-p.ensures c.numbered_at-a_1.ensures
 
-pub returns : goal.returns
-returns c =
-    let e : c.loop-j.j ≡ c.args.order + 1 = omega arith in
-    centred_done _ _ c.loop-j.j _ c.in_ok-check_centred.ensures e c.loop-j.invariant
+pub returns-in_ok-check_centred-2 : goal.returns-in_ok-check_centred-2
+unfolding of_bits neg
+returns-in_ok-check_centred-2 c =
+    let e : c.loop-j.j + 1 ≡ c.args.order + 1 = omega arith in
+    centred_done _ _ (c.loop-j.j + 1) _ c.in_ok-check_centred.ensures e
+    (centred_turn _ _ c.loop-j.j _ _ _ _ _ c.loop-j.invariant c.powi-sign.ensures c.comb-combin.ensures c.powi-p.ensures c.numbered_at-a_1.ensures)

@@ -4,7 +4,7 @@ use lib.Ieee.{of_bits}
 use Rattle.float.specs.Power.{power_of}
 use Rattle.formula.specs.Formula.{eval, stops}
 use Rattle.formula.proofs.Runs.{done, then, stop, pass}
-use Rattle.step.proofs.StepRuns.{kind_4, between_4, ran, not_ran, stopped, stopped_later, weighs, is_4}
+use Rattle.step.proofs.StepRuns.{kind_4, between_4, ran, not_ran, stopped, stops_as, weighs, is_4}
 use Rattle.step.proofs.four.Goals as goal
 
 pub returns-in_default : goal.returns-in_default
@@ -13,8 +13,8 @@ returns-in_default c = stopped kind_4 _ (not_ran _ (c.curves_from.ensures _) c.i
 pub returns-then-p_1_deno : goal.returns-then-p_1_deno
 unfolding between_4 stops eval of_bits power_of
 returns-then-p_1_deno c =
-    let first = ran (c.curves_from.ensures _) c.in-Some.is in
-    stopped_later kind_4 _ first (then _ refl (stop c.if-p_1_deno.true)) ∙ is_4 _ _ _
+    stops_as kind_4 (is_4 _ _ _) (c.curves_from.ensures _) c.in-Some.is
+    (then _ refl (stop c.if-p_1_deno.true))
 
 pub returns : goal.returns
 unfolding between_4 stops eval of_bits power_of

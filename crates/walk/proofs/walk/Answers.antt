@@ -14,7 +14,7 @@ pub returns-in_default : goal.returns-in_default
 returns-in_default c =
     let m = c.args.m in
     let h : c.loop-count.count < m.max_iter = omega arith in
-    turned_away m _ _ _ _ _ _ h (stepped_on m _ _ _ _ _ _ c.requires.0 c.first_five-a.ensures c.step-s.ensures c.in_default.is) c.with_fit.ensures c.ended_after.ensures
+    turned_away m _ _ _ _ _ h (stepped_on m _ _ _ _ _ _ c.requires.0 c.first_five-a.ensures c.step-s.ensures c.in_default.is) c.ended_after.ensures
     ∙ sym c.loop-count.invariant.1
 
 pub returns-then-abs-m : goal.returns-then-abs-m
@@ -22,7 +22,7 @@ returns-then-abs-m c =
     let m = c.args.m in
     let h : c.loop-count.count < m.max_iter = omega (arith, c.loop-count-test.true) in
     let a = c.first_five-a.ensures in
-    settles m _ _ _ _ _ _ _ _ h (stepped_on m _ _ _ _ _ _ c.requires.0 a c.step-s.ensures c.in-Admitted.is) (fit_on _ m.moments _ _ _ _ a c.fit_after-f.ensures) (settled_on _ _ _ _ true c.abs.ensures c.if-abs-m.true) c.with_fit-then-abs-m.ensures c.ended_after-then-abs-m.ensures
+    settles m _ _ _ _ _ _ _ h (stepped_on m _ _ _ _ _ _ c.requires.0 a c.step-s.ensures c.in-Admitted.is) (fit_on _ m.moments _ _ _ _ a c.fit_after-f.ensures) (settled_on _ _ _ _ true c.abs.ensures c.if-abs-m.true) c.ended_after-then-abs-m.ensures
     ∙ sym c.loop-count.invariant.1
 
 pub loop-count-preserved : goal.loop-count-preserved
@@ -40,4 +40,4 @@ pub returns : goal.returns
 returns c =
     let m = c.args.m in
     let h : c.loop-count.count ≡ m.max_iter = omega arith in
-    spent m _ _ _ _ _ h c.with_fit-2.ensures ∙ sym c.loop-count.invariant.1
+    spent m _ _ _ _ _ h c.ended_after-2.ensures ∙ sym c.loop-count.invariant.1
