@@ -7,7 +7,7 @@ use lib.Dec.{lit<}
 use lib.ListN.{get_or, take, drop}
 use lib.Ieee.{Float, nan}
 use Rattle.float.specs.Constants.{nought}
-use Rattle.moments.specs.Figures.{five_of, params_of}
+use Rattle.moments.specs.Lists.{five_of, params_of}
 use Rattle.std.proofs.lemmas.List.{get_or-replicate, get_or-take, get_or-drop}
 use Rattle.capi_states.specs.States.{at, first}
 

@@ -3,7 +3,7 @@ use mathlib.Core.Path.{◌≡◌, ap, ◌∙◌}
 use lib.Dec.{lit<}
 use lib.Ieee.{nan}
 use lib.ListN.{get_or, take, drop}
-use Rattle.moments.specs.Figures.{five_of, params_of}
+use Rattle.moments.specs.Lists.{five_of, params_of}
 use Rattle.capi_states.specs.States.{first}
 use Rattle.capi_states.proofs.Numbers.{first_at, five_last, params_first}
 use Rattle.capi_states.proofs.state_of.Goals as goal
