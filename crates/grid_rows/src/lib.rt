@@ -85,14 +85,14 @@ impl From<[f64; 6]> for FitResultRow {
         ensures { result ≡ row_from numbers }
     {
         let [mu_1, mu_2, sigma_1, sigma_2, p_1, error] = numbers;
-        let p = Params {
+        Self {
             mu_1,
             mu_2,
             sigma_1,
             sigma_2,
             p_1,
-        };
-        FitResultRow::new(p, error)
+            error,
+        }
     }
 }
 
