@@ -21,6 +21,7 @@ pub struct Fitted {
 
 // One search: the Rust's single_fit_loop, with starting weights from a lent list in place of draws. The
 // epsilon in force is the one given for this search, or the state's own.
+#[tactic(auto, using(crate::proofs::Known::served, crate::proofs::Searching::refused, crate::proofs::Searching::ended))]
 pub fn single_fit_loop(m: M2N, epsilon_override: Option<f64>, weights: &[f64]) -> Fitted
     ensures { result ≡ single_fit m epsilon_override weights.now }
 {

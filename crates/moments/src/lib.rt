@@ -119,6 +119,7 @@ pub fn get_moments(p: Params) -> Five
 }
 
 // The binomial number, as a quotient of two products, which is exact for n up to 16.
+#[tactic(auto, using(crate::proofs::Products::falling_more, crate::proofs::Products::rising_more, crate::proofs::Products::chosen), unfolding(crate::specs::Comb::choose, crate::specs::Comb::falling, crate::specs::Comb::rising))]
 fn comb(n: usize, k: usize) -> f64
     requires { n ≤ 16 }
     ensures { result ≡ choose n k }
@@ -179,6 +180,7 @@ pub fn centered_moment(moments: &[f64], order: usize) -> Result<f64, Refusal>
 }
 
 // The raw moment of order n, from centred moments and the mean.
+#[tactic(auto, using(crate::proofs::Turns::raw_start, crate::proofs::Turns::raw_turn, crate::proofs::Turns::raw_end), unfolding(formula::specs::Formula::eval, formula::specs::Whole::sum_of))]
 fn raw_one(central: &[f64], mean: f64, n: usize) -> f64
     requires { (n ≤ length central.now) × (n ≤ 16) }
     ensures { result ≡ raw_sum central.now mean n }
