@@ -135,8 +135,8 @@ fn means(m: M2N, deviation: f64, from: usize) -> [f64; 256]
     ensures { Means m deviation from result }
 {
     let mut u = [0.0f64; 256];
-    for j in 0..256 {
-        u[j] = mean_of(m, deviation, from + j + 1);
+    for (j, mean) in u.iter_mut().enumerate() {
+        *mean = mean_of(m, deviation, from + j + 1);
     }
     u
 }
@@ -147,8 +147,9 @@ fn variances(a: Five, means: [f64; 256], weights: &[f64]) -> [f64; 256]
     ensures { Variances (listed a) means weights.now result }
 {
     let mut v = means;
-    for j in 0..usize::min(weights.len(), 256) {
-        v[j] = step::sigma_2_squared(a, v[j], weights[j]);
+    let n = usize::min(weights.len(), 256);
+    for (j, weight) in weights[..n].iter().enumerate() {
+        v[j] = step::sigma_2_squared(a, v[j], *weight);
     }
     v
 }
