@@ -142,7 +142,8 @@ fn means(m: M2N, deviation: f64, from: usize) -> [f64; 256]
 }
 
 // The sigma_2^2 of the first step from each of these means, as far as there are weights. Nothing branches
-// here, and the means are there already, so that the processor has many rows in hand.
+// here, and the means are there already, so that the processor has many rows in hand. They are put by index:
+// of what goes through a zip of `iter_mut` a proof knows no number afterwards.
 fn variances(a: Five, means: [f64; 256], weights: &[f64]) -> [f64; 256]
     ensures { Variances (listed a) means weights.now result }
 {
