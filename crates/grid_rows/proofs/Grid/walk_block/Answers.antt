@@ -1,9 +1,9 @@
--- `grid_rows::walk_block` meets its contract: after i turns, the search after i rows more, passed over or walked. Assumes nothing.
+-- `grid_rows::Grid::walk_block` meets its contract: after i turns, the search after i rows more, passed over or walked. Assumes nothing.
 use Rattle.std.proofs.Common.{rules, arith, add-one, length, ◌≡◌, ◌∙◌}
 use lib.Ieee.{of_bits}
 use Rattle.std.proofs.lemmas.List.{length_push}
 use Rattle.grid_rows.proofs.Blocks.{taken, row_passed, row_more}
-use Rattle.grid_rows.proofs.walk_block.Goals as goal
+use Rattle.grid_rows.proofs.Grid.walk_block.Goals as goal
 
 pub loop-mean-preserved-then-variance : goal.loop-mean-preserved-then-variance
 unfolding of_bits
