@@ -1,9 +1,8 @@
 -- What the C functions of the moments answer, and what they leave in the lent numbers. Definitions only.
-use Rattle.std.specs.Prelude.{List, ◌++◌, cond, ℕ, ltb, length, take, drop, Float, Result, Ok, Err}
+use Rattle.std.specs.Prelude.{List, ◌++◌, cond, ℕ, ltb, length, take, drop, Float}
 use Rattle.moments.specs.Lists.{listed}
 use Rattle.moments.specs.declared.Five.{Five}
 use Rattle.refusal.specs.Numbers.{number_of}
-use Rattle.refusal.specs.declared.Refusal.{Refusal}
 use Rattle.refusal.specs.declared.Refusal.TheVariants.{TooLittleRoom}
 
 -- the lent numbers with five moments in their front, as far as there are places
@@ -16,8 +15,3 @@ moments_number l = cond (ltb (length l) 5) (number_of TooLittleRoom) 0
 
 abbrev pub moments_after : Five → List Float → List Float
 moments_after m before = cond (ltb (length before) 5) before (with_five before m)
-
--- the lent moment after: a refusal leaves it as it was
-abbrev pub centred_after : Result Float Refusal → Float → Float
-centred_after (Ok x) before = x
-centred_after (Err e) before = before

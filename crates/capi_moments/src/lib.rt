@@ -1,14 +1,15 @@
 // The moments of a mixture, and the change between raw and centred moments, for C. Each answers 0, or the
-// number of the refusal, which leaves all as it was. A slice is a pointer and a length.
+// number of the refusal, which leaves all as it was: C has no Result. A slice is a pointer and a length.
 // include/woddirme.h declares them.
 #![tactic(auto)]
 
 ghost use Rattle.std.specs.Prelude.{◌≡◌};
+ghost use Rattle.std.specs.Result.{result_unwrap_or};
 ghost use Rattle.moments.specs.Figures.{params};
 ghost use Rattle.moments.specs.Mixture.{get_moments};
 ghost use Rattle.moments.specs.Refusals.{centred_moment, raw_moment, raw_out};
 ghost use Rattle.refusal.specs.Numbers.{status_of};
-ghost use Rattle.capi_moments.specs.Moments.{centred_after, moments_after, moments_number};
+ghost use Rattle.capi_moments.specs.Moments.{moments_after, moments_number};
 
 use moments::Params;
 use refusal::Refusal;
@@ -44,12 +45,10 @@ pub extern "C" fn woddirme_get_moments(
 // The centred moment of an order, from raw moments (centered_moment).
 #[unsafe(no_mangle)]
 pub extern "C" fn woddirme_centered_moment(moments: &[f64], order: usize, moment: &mut f64) -> u64
-    ensures { (result ≡ status_of (centred_moment moments.now order)) × (moment.new ≡ centred_after (centred_moment moments.now order) moment.old) }
+    ensures { (result ≡ status_of (centred_moment moments.now order)) × (moment.new ≡ result_unwrap_or (centred_moment moments.now order) moment.old) }
 {
     let answer = moments::centered_moment(moments, order);
-    if let Ok(x) = answer {
-        *moment = x;
-    }
+    *moment = answer.unwrap_or(*moment);
     refusal::status_of(answer)
 }
 

@@ -41,8 +41,6 @@ pub extern "C" fn woddirme_limit_price_sigmoid(
     ensures { (result ≡ status_of (limit_price_sigmoid t_pos pos f w max_pos)) × (price.new ≡ result_unwrap_or (limit_price_sigmoid t_pos pos f w max_pos) price.old) }
 {
     let answer = limit_price::limit_price_sigmoid(t_pos, pos, f, w, max_pos);
-    if let Ok(x) = answer {
-        *price = x;
-    }
+    *price = answer.unwrap_or(*price);
     refusal::status_of(answer)
 }

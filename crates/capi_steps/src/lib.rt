@@ -1,5 +1,6 @@
 // One step and a walk, for C (include/woddirme.h): a slice is a pointer and a length. Each answers 0, or
-// the number of the refusal, which leaves all as it was.
+// the number of the refusal, which leaves all as it was. C has neither Option nor Result, so a refusal is the
+// number that the header gives it, and a step that may be missing a count, 1 or 0.
 #![tactic(auto)]
 
 ghost use Rattle.std.specs.Prelude.{◌≡◌, ◌≤◌, length};

@@ -30,7 +30,8 @@ impl Fitter {
     }
 }
 
-// The method by value, for callers that have a state and no Fitter.
+// The method by value. `search_requests` calls it in place of grid's function, so that what the programs
+// answer, and what is compared with the Rust, is the lent form itself.
 pub fn single_fit_through(m: M2N, epsilon_override: Option<f64>, weights: &[f64]) -> Fitted
     ensures { result ≡ single_fit m epsilon_override weights.now }
 {

@@ -8,14 +8,15 @@ use grid::FitResultRow;
 use refusal::Refusal;
 use walk::M2N;
 
-// The first n rows come from flat numbers, and the others stay.
+// The first n rows come from flat numbers, and the others stay. They are put by index: of what goes through
+// a zip of `iter_mut` a proof knows no element afterwards.
 fn fill(rows: &mut [FitResultRow], flat: &[f64], n: usize)
     requires { (n ≤ length rows.old) × (6 * n ≤ length flat.now) }
     ensures { rows.new ≡ rows_at flat.now n ++ drop n rows.old }
 {
     let (sixes, _) = flat.as_chunks::<6>();
-    for i in 0..n {
-        rows[i] = FitResultRow::from(sixes[i]);
+    for (i, six) in sixes[..n].iter().enumerate() {
+        rows[i] = FitResultRow::from(*six);
     }
 }
 
@@ -37,7 +38,8 @@ pub struct Runs {
     pub outcome: Result<usize, Refusal>,
 }
 
-// mp_fit by value: it is lent the 64 rows, and what it left in them is handed back.
+// mp_fit by value: it is lent the 64 rows, and what it left in them is handed back. No program calls it
+// today (`run_requests` lends a slice); it stays because callers were promised it.
 pub fn mp_fit_through(m: M2N, weights: &[f64], rows: [FitResultRow; 64]) -> Runs
     ensures { (result.outcome ≡ mp_fit m weights.now 64) × (result.rows ≡ mp_rows m weights.now rows) }
 {

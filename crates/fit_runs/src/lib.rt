@@ -28,7 +28,8 @@ fn put(numbers: &mut [f64], count: usize, o: Result<Option<FitResultRow>, Refusa
     count + 1
 }
 
-// Each run starts from the same state and takes the next weights.
+// Each run starts from the same state and takes the next weights. No `chunks`: a search may have 0 rows, and
+// a chunk has at least one number.
 fn all(m: M2N, weights: &[f64]) -> Flat
     requires { Runnable m weights.now }
     ensures { result ≡ all_runs m weights.now }

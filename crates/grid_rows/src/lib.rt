@@ -85,14 +85,14 @@ impl From<[f64; 6]> for FitResultRow {
         ensures { result ≡ row_from numbers }
     {
         let [mu_1, mu_2, sigma_1, sigma_2, p_1, error] = numbers;
-        let p = Params {
+        Self {
             mu_1,
             mu_2,
             sigma_1,
             sigma_2,
             p_1,
-        };
-        FitResultRow::new(p, error)
+            error,
+        }
     }
 }
 
@@ -103,15 +103,6 @@ pub struct Search {
     pub state: M2N,
     pub err_min: f64,
     pub best: Option<FitResultRow>,
-}
-
-// The starting mean of row i.
-#[tactic(auto, unfolding(crate::specs::Rows::mean_of))]
-fn mean_of(m: M2N, deviation: f64, i: usize) -> f64
-    requires { i < 2 ^ 18 }
-    ensures { result ≡ mean_of m deviation i }
-{
-    i as f64 * m.epsilon * m.factor * deviation + m.moments[0]
 }
 
 // A row is made where its walk left a strictly smaller error than any row's before it.
@@ -129,26 +120,16 @@ fn look(s: Search, m: M2N) -> Search
     }
 }
 
-// The starting means of the 256 rows after the first `from`.
-fn means(m: M2N, deviation: f64, from: usize) -> [f64; 256]
-    requires { from ≤ 131072 }
-    ensures { Means m deviation from result }
-{
-    let mut u = [0.0f64; 256];
-    for j in 0..256 {
-        u[j] = mean_of(m, deviation, from + j + 1);
-    }
-    u
-}
-
 // The sigma_2^2 of the first step from each of these means, as far as there are weights. Nothing branches
-// here, and the means are there already, so that the processor has many rows in hand.
+// here, and the means are there already, so that the processor has many rows in hand. They are put by index:
+// of what goes through a zip of `iter_mut` a proof knows no number afterwards.
 fn variances(a: Five, means: [f64; 256], weights: &[f64]) -> [f64; 256]
     ensures { Variances (listed a) means weights.now result }
 {
     let mut v = means;
-    for j in 0..usize::min(weights.len(), 256) {
-        v[j] = step::sigma_2_squared(a, v[j], weights[j]);
+    let n = usize::min(weights.len(), 256);
+    for (j, weight) in weights[..n].iter().enumerate() {
+        v[j] = step::sigma_2_squared(a, v[j], *weight);
     }
     v
 }
@@ -160,24 +141,54 @@ fn walk_row(s: Search, mu_2: f64, p_1: f64) -> Search
     look(s, walk::iterate_from(s.state, mu_2, p_1).state)
 }
 
-// The rows after the first `from`, 256 or as many as there are. Where sigma_2^2 is below zero the walk ends
-// at its first step and leaves all as it was: so end most rows, and they are passed over. The loop goes by
-// an index: over a zip of the three it was proved too, and a search took a tenth longer.
-fn walk_block(s: Search, m: M2N, deviation: f64, weights: &[f64], from: usize) -> Search
-    requires { (s ≡ search_to m deviation weights.now from) × (from ≤ length weights.now) × (from ≤ 131072) }
-    ensures { result ≡ search_to m deviation weights.now (min (from + 256) (length weights.now)) }
-{
-    let block = &weights[from..];
-    let means = means(m, deviation, from);
-    let variances = variances(walk::first_five(m), means, block);
-    let mut t = s;
-    for j in 0..usize::min(block.len(), 256) {
-        if variances[j] < 0.0 {
-            continue;
-        }
-        t = walk_row(t, means[j], block[j]);
+// Where the rows start: the state, and the deviation that spreads their means.
+#[derive(Clone, Copy)]
+struct Grid {
+    m: M2N,
+    deviation: f64,
+}
+
+impl Grid {
+    // The starting mean of row i.
+    #[tactic(auto, unfolding(crate::specs::Rows::mean_of))]
+    fn mean(self, i: usize) -> f64
+        requires { i < 2 ^ 18 }
+        ensures { result ≡ mean_of self.m self.deviation i }
+    {
+        i as f64 * self.m.epsilon * self.m.factor * self.deviation + self.m.moments[0]
     }
-    t
+
+    // The starting means of the 256 rows after the first `from`.
+    fn means(self, from: usize) -> [f64; 256]
+        requires { from ≤ 131072 }
+        ensures { Means self.m self.deviation from result }
+    {
+        let mut u = [0.0f64; 256];
+        for (j, mean) in u.iter_mut().enumerate() {
+            *mean = self.mean(from + j + 1);
+        }
+        u
+    }
+
+    // The rows after the first `from`, 256 or as many as there are. Where sigma_2^2 is below zero the walk
+    // ends at its first step and leaves all as it was: so end most rows, and they are passed over. The loop
+    // goes by an index: over a zip of the three it was proved too, and a search took a tenth longer.
+    fn walk_block(self, s: Search, weights: &[f64], from: usize) -> Search
+        requires { (s ≡ search_to self.m self.deviation weights.now from) × (from ≤ length weights.now) × (from ≤ 131072) }
+        ensures { result ≡ search_to self.m self.deviation weights.now (min (from + 256) (length weights.now)) }
+    {
+        let block = &weights[from..];
+        let means = self.means(from);
+        let variances = variances(walk::first_five(self.m), means, block);
+        let mut t = s;
+        for j in 0..usize::min(block.len(), 256) {
+            if variances[j] < 0.0 {
+                continue;
+            }
+            t = walk_row(t, means[j], block[j]);
+        }
+        t
+    }
 }
 
 // A walk from each row's mean and weight; the error carries over. Of more weights than 131,072, which
@@ -187,13 +198,14 @@ pub fn walk_rows(m: M2N, deviation: f64, weights: &[f64]) -> Search
     ensures { result ≡ search_to m deviation weights.now (min (length weights.now) 131072) }
 {
     let weights = &weights[..usize::min(weights.len(), 131072)];
+    let grid = Grid { m, deviation };
     let mut s = Search {
         state: m,
         err_min: m.error,
         best: None,
     };
     for from in (0..weights.len()).step_by(256) {
-        s = walk_block(s, m, deviation, weights, from);
+        s = grid.walk_block(s, weights, from);
     }
     s
 }

@@ -9,9 +9,9 @@ returns-then-fit-lt12 c =
     (rw e c.from.ensures, rw e, rw e)
 
 pub leave_rows-requires : goal.leave_rows-requires
-leave_rows-requires c = roomy _ _ c.args.rows.now _ c.mp_fit_flat.ensures
+leave_rows-requires c = roomy _ _ c.args.rows.now _ c.mp_fit_flat-f.ensures
 
 pub returns : goal.returns
 returns c =
     let a = c.args in
-    leaves a.moments.now a.variant a.factor a.max_iter a.n_runs a.weights.now a.fit.now a.rows.now _ _ _ _ _ _ c.state_of-m.ensures c.mp_fit_flat.ensures c.if-fit-lt12.false c.leave_rows.ensures
+    rw c.status_of.ensures (leaves a.moments.now a.variant a.factor a.max_iter a.n_runs a.weights.now a.fit.now a.rows.now _ _ _ _ _ _ c.state_of-m.ensures c.mp_fit_flat-f.ensures c.if-fit-lt12.false c.leave_rows.ensures)

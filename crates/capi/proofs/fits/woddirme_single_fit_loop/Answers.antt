@@ -12,4 +12,4 @@ returns-then-fit-lt12 c =
 pub returns : goal.returns
 returns c =
     let a = c.args in
-    leaves a.moments.now a.variant a.factor a.max_iter a.epsilon_override.now a.weights.now a.fit.now a.row.now _ _ _ _ _ _ _ _ c.state_of-m.ensures c.override_of.ensures c.single_fit_loop-f.ensures c.if-fit-lt12.false c.if-row-lt6.false c.leave.ensures
+    rw c.status_of.ensures (leaves a.moments.now a.variant a.factor a.max_iter a.epsilon_override.now a.weights.now a.fit.now a.row.now _ _ _ _ _ _ _ _ c.state_of-m.ensures c.override_of.ensures c.single_fit_loop-f.ensures c.if-fit-lt12.false c.if-row-lt6.false c.leave.ensures)
