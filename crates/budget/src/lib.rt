@@ -39,7 +39,7 @@ fn sizes_of(long: &[f64], short: &[f64], size: &mut [f64])
     }
 }
 
-// Writes the budget size of each span. The counts have room for as many spans as are taken, so they
+// Writes the budget size of each span, from three lists as the Rust's function. The counts have room for as many spans as are taken, so they
 // are refused as the sizes are, but for the room of these.
 pub fn bet_size_budget(
     starts: &[i64],
