@@ -60,19 +60,6 @@ pub record Gathered (side : Side) (ss es : List ℤ) (ds : List Float) (s e : Li
   pub fit_starts : (k : ℕ) → k < i → SFits w64 (get_or ss k (pos 0))
   pub fit_ends : (k : ℕ) → k < i → SFits w64 (get_or es k (pos 0))
 
-pub gathered_none : {side : Side} {ss es rs re : List ℤ} {ds rd : List Float} {s e : List ℕ} → rs ≡ ss → re ≡ es → rd ≡ ds → Gathered side ss es ds s e 0 0 rs re rd
-gathered_none {s = s} {e = e} a b c = rw (a, b, c) record {
-  few = omega arith;
-  taken = omega arith;
-  starts = λ x. let none : rank x (take 0 s) ≡ 0 = refl in omega (arith, none);
-  ends = λ x. let none : rank x (take 0 e) ≡ 0 = refl in omega (arith, none);
-  left_starts = refl;
-  left_ends = refl;
-  left_sides = refl;
-  fit_starts = λ k l. absurd (omega arith);
-  fit_ends = λ k l. absurd (omega arith);
-}
-
 module _ {side : Side} {ss es : List ℤ} {ds : List Float} {s e : List ℕ} {m i : ℕ} where
   module _ {t u : ℤ} {d : Float} {rs re : List ℤ} {rd : List Float} (room_s : length ss ≤ length s) (room_e : length ss ≤ length e) (h : Gathered side ss es ds s e m i (t ∷ rs) (u ∷ re) (d ∷ rd)) (ft : SFits w64 t) (fu : SFits w64 u) where
     more : Gathered side ss es ds (set s m (key_of t)) (set e m (key_of u)) (m + indicator (lt_z t u && on_side side d)) (i + 1) rs re rd

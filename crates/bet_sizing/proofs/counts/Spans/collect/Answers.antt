@@ -3,11 +3,8 @@ use borrow.Author.Rules.{rules}
 use mathlib.Core.Logic.{inl, inr}
 use native.Mathlib.Omega.{arith}
 use Rattle.std.proofs.lemmas.List.{length_push}
-use Rattle.bet_sizing.proofs.Collecting.{gathered_none, gathered_more, gathered_all}
+use Rattle.bet_sizing.proofs.Collecting.{gathered_more, gathered_all}
 use Rattle.bet_sizing.proofs.counts.Spans.collect.Goals as goal
-
-pub loop-start-init : goal.loop-start-init
-loop-start-init c = gathered_none (search rules) (search rules) (search rules)
 
 pub loop-start-preserved : goal.loop-start-preserved
 loop-start-preserved c =
