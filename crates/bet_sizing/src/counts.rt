@@ -68,8 +68,9 @@ impl Spans<'_> {
     {
         let mut m = 0;
         for ((start, end), number) in self.starts.iter().zip(self.ends).zip(self.sides) {
-            // each is written, and the test, which a branch would often guess wrong, only moves the next
-            // place. By index, since a proof knows nothing of the elements after an adapter of iter_mut
+            // each is written, and the test only moves the next place: by an `if` round all three, random
+            // sides took the same loop in Rust four times as long. By index, since a proof knows nothing of
+            // the elements after an adapter of iter_mut
             s[m] = number::key(*start);
             e[m] = number::key(*end);
             m += usize::from(ever_live(side, *start, *end, *number));
