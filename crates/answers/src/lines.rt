@@ -11,7 +11,9 @@ const LIST: usize = 16384;
 // Answers that wait are written when a chunk is done, or when the next answer might lack room.
 const ROOM: usize = 262144;
 
-// The line that comes in, and the answers that wait to be written.
+// The line that comes in, and the answers that wait to be written: arrays for the longest line and list,
+// since a Vec may run out of memory. A struct cannot lend from its own array, so `out` and `at` stand here
+// and each answer makes its `Text` of them.
 #[derive(Drop)]
 pub(crate) struct Lines {
     // the bytes of the current line, and how many have come: None if more than a line may have

@@ -11,7 +11,7 @@ use std::io::Read;
 
 // Reads once and takes in what came, and answers how many bytes did: 0 at the end of the input.
 fn serve(rt: &HostRuntime, lines: &mut Lines) -> io::Result<usize> {
-    let mut chunk = [0; 65536];
+    let mut chunk = [0; 65536]; // read at once; a Vec may run out of memory
     let n = rt.stdin().read(&mut chunk)?;
     lines.take_in(rt, &chunk[..n])?;
     Ok(n)

@@ -1,11 +1,9 @@
--- The largest count, a turn at a time; and the sizes, by their places and as a list. Assumes nothing.
-use Prim.Native.Nat.{ℕ, zero, suc, ◌+◌, ◌<◌}
+-- The largest of counts and one more; and the sizes, by their places and as a list. Assumes nothing.
+use Prim.Native.Nat.{ℕ, zero, suc, ◌<◌}
 use mathlib.Core.Path.{◌≡◌, refl, ap}
-use mathlib.Core.List.{List, [], ◌∷◌, map}
-use native.Mathlib.Numerals.{add-one}
+use mathlib.Core.List.{List, [], ◌∷◌, ◌++◌, map}
 use native.Mathlib.Omega.{arith}
-use lib.ListN.{length, drop, get_or}
-use lib.Seq.{drop-cons, drop-length}
+use lib.ListN.{length, get_or}
 use lib.IntN.{ℤ}
 use lib.Ieee.{Float, nan, binary64, sub}
 use Rattle.float.specs.Leaves.{larger_of}
@@ -13,13 +11,10 @@ use Rattle.budget.specs.Budget.{largest, largest_from, share}
 use Rattle.budget.specs.Sizes.{sizes_by, sizes_of}
 
 -- ---- the largest
-pub largest_more : (cs : List Float) (most all : Float) (i : ℕ) → i < length cs → largest_from most (drop i cs) ≡ all → largest_from (larger_of most (get_or cs i nan)) (drop (i + 1) cs) ≡ all
+pub largest_push : (most : Float) (cs : List Float) (c : Float) → largest_from most (cs ++ c ∷ []) ≡ larger_of (largest_from most cs) c
 unfolding largest_from
-largest_more cs most all i l e = rw add-one (rw (drop-cons cs i nan) at e)
-
-pub largest_all : (cs : List Float) (most all : Float) (i : ℕ) → i ≡ length cs → largest_from most (drop i cs) ≡ all → most ≡ all
-unfolding largest_from
-largest_all cs most all i l e = rw (l, drop-length) at e
+largest_push most [] c = refl
+largest_push most (x ∷ cs) c = largest_push (larger_of most x) cs c
 
 -- ---- the sizes
 module _ (a b : Float) where

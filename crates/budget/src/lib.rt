@@ -11,11 +11,9 @@ use refusal::Refusal;
 fn largest(counts: &[f64]) -> f64
     ensures { result ≡ largest counts.now }
 {
-    let mut most = 0.0;
-    for count in counts {
-        most = number::larger(most, *count);
-    }
-    most
+    counts
+        .iter()
+        .fold(0.0, |most, &count| number::larger(most, count))
 }
 
 // A count over the largest count; +0 for a side that has none.
@@ -35,12 +33,13 @@ fn sizes_of(long: &[f64], short: &[f64], size: &mut [f64])
 {
     let max_long = largest(long);
     let max_short = largest(short);
-    for i in 0..long.len() {
-        size[i] = share_of(long[i], max_long) - share_of(short[i], max_short);
+    for (i, (live_long, live_short)) in long.iter().zip(short).enumerate() {
+        // by index, since after an adapter of iter_mut a proof knows nothing of the elements
+        size[i] = share_of(*live_long, max_long) - share_of(*live_short, max_short);
     }
 }
 
-// Writes the budget size of each span. The counts have room for as many spans as are taken, so they
+// Writes the budget size of each span, from three lists as the Rust's function. The counts have room for as many spans as are taken, so they
 // are refused as the sizes are, but for the room of these.
 pub fn bet_size_budget(
     starts: &[i64],

@@ -5,7 +5,7 @@
 use std::io;
 
 fn answer(rt: &impl Print, s: &[u8]) -> io::Result<()> {
-    let mut out = [0u8; 131072]; // for 1,024 rows of 128 bytes
+    let mut out = [0u8; 131072]; // for 1,024 rows of 128 bytes; a Vec may run out of memory
     let n = sheet::count_sheet(s, &mut out);
     rt.write_all(&out[..n])
 }

@@ -50,6 +50,7 @@ fn tell(rt: &impl Print, name: &str, o: Result<Option<FitResultRow>, Refusal>) -
 }
 
 fn main(rt: HostRuntime) -> io::Result<()> {
+    // an array for the most weights of a case: a Vec may run out of memory
     let all = [0.5; 131072];
     for (name, variant, epsilon, n) in CASES {
         let weights = all.get(..n).unwrap_or(&[]);

@@ -9,7 +9,9 @@ ghost use Rattle.limit_price.specs.LimitPrice.{limit_price_sigmoid, lot_number, 
 
 use refusal::Refusal;
 
-// The prices of the lots walked, summed as Rust's sum() does, from -0.
+// The prices of the lots walked, summed as Rust's sum() does, from -0. By `(1..=lots).map(..).sum()` the
+// check asks of each call of the closure that its lot fits an i64, and does not find that; here a lot is
+// the last one and sgn. Of the six parameters three are the curve's, and three say which lots.
 fn sum_of_prices(f: f64, w: f64, max_pos: f64, current: i64, sgn: i64, lots: u64) -> f64
     requires { (i : ℕ) → i ≤ lots → SFits w64 (lot_number current sgn i) }
     ensures { result ≡ summed (lot_price f w max_pos current sgn) lots }

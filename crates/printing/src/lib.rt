@@ -16,7 +16,7 @@ pub fn put_bad(text: &mut Text)
 }
 
 // Puts the answer to the line s, with its newline: its reply, beside which stands the list xs, if the
-// line is a request.
+// line is a request. s and xs are no struct: rows alone want both, and each clause here would be longer.
 pub fn put(text: &mut Text, r: Option<Reply>, s: &[u8], xs: &[f64])
     ensures { Puts text.old text.new (line r s.now xs.now) }
 {

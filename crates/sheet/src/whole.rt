@@ -38,6 +38,7 @@ fn put_answer(text: &mut Text, s: &[u8])
     requires { Blank text.old }
     ensures { Written text.new (count_sheet s.now) }
 {
+    // arrays for the most lines that a sheet may have: a Vec may run out of memory
     let mut starts = [0i64; 1024];
     let mut ends = [0i64; 1024];
     let mut sides = [0.0f64; 1024];
@@ -54,7 +55,7 @@ pub fn count_sheet(s: &[u8], out: &mut [u8]) -> usize
     ensures placed { Placed out.old out.new 0 result (count_sheet s.now) }
     ensures within { result ≤ length out.new }
 {
-    let mut room = [0u8; 131072]; // for 1,024 rows of 128 bytes
+    let mut room = [0u8; 131072]; // for 1,024 rows of 128 bytes; a Vec may run out of memory
     let mut answer = Text::new(&mut room);
     put_answer(&mut answer, s);
     let mut text = Text::new(out);

@@ -48,6 +48,7 @@ fn read_file(rt: &(impl Files + Eprint), path: &str, buf: &mut [u8]) -> io::Resu
     }
 }
 
+// Arrays here and in `case` for the longest file and the most rows: a Vec may run out of memory.
 fn is_answered(s: &[u8], wanted: &[u8]) -> bool {
     let mut out = [0u8; 131072];
     let n = sheet::count_sheet(s, &mut out);

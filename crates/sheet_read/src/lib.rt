@@ -52,13 +52,14 @@ fn check(s: &[u8]) -> Result<usize, SheetError>
     Ok(n)
 }
 
-// Takes the spans of a sheet that was accepted into lists that have a place for each. NaNs are one
-// class: each pattern of one is read as NaN.
+// Takes the spans of a sheet that was accepted into lists that have a place for each: three lists, since
+// the counts take three, as the Rust's do. NaNs are one class: each pattern of one is read as NaN.
 fn take_spans(s: &[u8], starts: &mut [i64], ends: &mut [i64], sides: &mut [f64])
     requires { Fillable s.now starts.old ends.old sides.old }
     ensures { HeldBy (sheet s.now) starts.new ends.new sides.new }
 {
     let mut rest = s;
+    // by index, since after an adapter of iter_mut a proof knows nothing of the elements
     for i in 0..starts.len() {
         let Some((span, after)) = sheet_forms::read_line(rest) else {
             return;

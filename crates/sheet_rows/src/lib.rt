@@ -20,7 +20,7 @@ pub struct Row {
 pub fn put_row(text: &mut Text, row: Row)
     ensures { Appended text.old text.new (row_line row) }
 {
-    let mut room = [0u8; 128];
+    let mut room = [0u8; 128]; // more than a row has; a Vec may run out of memory
     let mut line = Text::new(&mut room);
     line.put(b"(row (at ");
     line.put_instant(row.at);

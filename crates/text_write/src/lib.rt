@@ -1,4 +1,9 @@
-// Texts put into a lent buffer, each whole or not at all, so that a buffer never holds a part.
+// Texts put into a lent buffer, each whole or not at all, so that a buffer never holds a part. Not by
+// `write!`: into a slice with too little room that writes a part before it fails, and the library's
+// contract says nothing of what a slice holds after it.
+//
+// The rooms here are arrays for the longest of a text, 20 digits, 21 bytes with a minus, 16 digits in hex:
+// a Vec may run out of memory.
 #![tactic(auto)]
 
 ghost use Rattle.std.specs.Prelude.{◌≡◌, take};

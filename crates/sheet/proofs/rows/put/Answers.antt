@@ -6,11 +6,8 @@ use lib.ListN.{get_or}
 use mir.Syntax.{w64}
 use mir.ValLaws.{to_z-of_z}
 use Rattle.std.proofs.lemmas.Grind.{common_steps}
-use Rattle.sheet.proofs.Rowing.{Beside, front_none, row_one}
+use Rattle.sheet.proofs.Rowing.{Beside, row_one}
 use Rattle.sheet.proofs.rows.put.Goals as goal
-
-pub loop-i-init : goal.loop-i-init
-loop-i-init c = rw c.requires.blank.empty (front_none _)
 
 pub loop-i-preserved : goal.loop-i-preserved
 loop-i-preserved c =
