@@ -6,6 +6,7 @@ ghost use Rattle.bet_requests.specs.Spans.{asked_in, left_by, reply_of, sides_in
 ghost use Rattle.protocol.specs.Words.{only};
 ghost use Rattle.replies.specs.Requests.{only_or};
 
+use protocol_lists::kept;
 use refusal::Refusal;
 use replies::{Columns, Reply, SpanRows};
 
@@ -46,7 +47,7 @@ fn request(kind: Kind, size: usize, s: &[u8], xs: &mut [f64]) -> Option<Reply>
     ensures { (result ≡ only (words (reply_of kind (length xs.old)) size s.now))
         × (xs.new ≡ only_or xs.old (words (left_by kind xs.old) size s.now)) }
 {
-    let (room, s) = protocol::read_next_natural(s, u64::MAX)?;
+    let (room, s) = protocol::read_next(s)?;
     // What is left is part of the line, so this is its place. Saturating, it asks for no proof of that.
     let from = size.saturating_sub(s.len());
     let mut starts = [0i64; 4096];
@@ -56,11 +57,11 @@ fn request(kind: Kind, size: usize, s: &[u8], xs: &mut [f64]) -> Option<Reply>
     let mut sides = [0.0f64; 4096];
     let n_sides = protocol::only(protocol_lists::read_next_list(s, &mut sides))?;
     let asked = Asked {
-        room: room as usize,
+        room,
         from,
-        starts: &starts[..n_starts.min(4096)],
-        ends: &ends[..n_ends.min(4096)],
-        sides: &sides[..n_sides.min(4096)],
+        starts: kept(&starts, n_starts),
+        ends: kept(&ends, n_ends),
+        sides: kept(&sides, n_sides),
     };
     let rows = match kind {
         Kind::ConcurrentSides => concurrent_sides(asked, xs),

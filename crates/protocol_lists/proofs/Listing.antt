@@ -88,13 +88,8 @@ module _ {A : Type 0} (form : List ℕ → Got A) where
     pub list_got : a_list form t ≡ got (listed t) u
     list_got = (by_count n u (next_natural (2 ^ 64 - 1) t) is).1
 
-    -- what was read into the list old, v after it
-    list_front : (old v : List A) → v ≡ list_in form old t → take n v ≡ take (length old) (listed t)
-    list_front old v e = rw (e, ← list_long) (front (listed t) old)
-
-    -- of it, those that had a place
-    pub list_first : (old : List A) {v : List A} {m places : ℕ} → v ≡ list_in form old t → m ≡ min n places → places ≡ length v
-        → take m v ≡ take places (listed t)
-    list_first old {v} {m} {places} e few long =
+    -- of what was read into the list old, v after it, those that had one of its places
+    pub list_first : (old : List A) {v : List A} {places : ℕ} → v ≡ list_in form old t → places ≡ length v → take n v ≡ take places (listed t)
+    list_first old {v} {places} e long =
         let same : length old ≡ places = sym (long ∙ ap length e ∙ (simp length-sets)) in
-        take_least _ _ _ (few ∙ ap (min n) long) ∙ list_front old v e ∙ ap (λ (l : ℕ). take l (listed t)) same
+        rw (e, ← same, ← list_long) (front (listed t) old)
