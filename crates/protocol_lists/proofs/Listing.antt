@@ -89,7 +89,7 @@ module _ {A : Type 0} (form : List ℕ → Got A) where
     list_got = (by_count n u (next_natural (2 ^ 64 - 1) t) is).1
 
     -- of what was read into the list old, v after it, those that had one of its places
-    pub list_first : (old : List A) {v : List A} {places : ℕ} → v ≡ list_in form old t → places ≡ length v → take n v ≡ take places (listed t)
-    list_first old {v} {places} e long =
+    pub list_first : (old : List A) (places : ℕ) {v : List A} → v ≡ list_in form old t → places ≡ length v → take n v ≡ take places (listed t)
+    list_first old places e long =
         let same : length old ≡ places = sym (long ∙ ap length e ∙ (simp length-sets)) in
         rw (e, ← same, ← list_long) (front (listed t) old)

@@ -11,7 +11,7 @@ use Rattle.moment_requests.proofs.orders.raw_moment.Goals as goal
 pub returns : goal.returns
 returns c =
     let read = c.read_next_list.ensures.counted ∙ only_some _ c.in_ok-n.ensures in
-    let kept = list_first next_fraction _ _ _ read _ c.read_next_list.ensures.kept c.min.ensures (omega arith) in
+    let kept = c.kept.ensures ∙ list_first next_fraction _ _ _ read _ 17 c.read_next_list.ensures.kept (omega arith) in
     let first = take_least _ _ _ c.min-places.ensures in (
       rw (c.in_ok-room.ensures, c.in_ok-mean.ensures, list_got next_fraction _ _ _ read, ← raw_cut, ← kept, ← first, ← c.raw_moment-written.ensures.0) (search rules),
       rw (c.in_ok-room.ensures, c.in_ok-mean.ensures, list_got next_fraction _ _ _ read, c.raw_moment-written.ensures.1, kept, out_cut, first, drop_least _ _ _ c.min-places.ensures) refl,
