@@ -1,6 +1,6 @@
-// Requests of the counts and the budget over spans. A side has 17 bytes of a line, so a line has
-// fewer than 4,096 of them. More starts or ends are unequal to them in number, also when cut to their
-// 4,096 places.
+// Requests of the counts and the budget over spans. A side has 17 bytes of a line of at most 65,535, so a
+// line has fewer than 4,096 of them. More starts or ends are unequal to them in number, also when cut to
+// their 4,096 places. Arrays hold them, as in all kinds of requests: a Vec may find no memory.
 ghost use Rattle.std.specs.Prelude.{◌≤◌, ◌≡◌, length};
 ghost use Rattle.bet_requests.specs.Spans.{asked_in, left_by, reply_of, sides_in, sides_rows, sizes_in, sizes_rows, spans, spans_in, words};
 ghost use Rattle.protocol.specs.Words.{only};
@@ -31,7 +31,10 @@ enum Kind {
     Budget,
 }
 
-// What is asked: the room for the answer, the place in the line before the starts, and the spans.
+// What is asked: the room for the answer, the place in the line before the starts, and the spans. A place
+// and no slice, as in SpanRows: with a slice `Reply` has a lifetime, and so has each kind's `answer`; and
+// since a contract says of a slice what it holds, the definitions need a second `Reply`, as they have a
+// second `Asked`.
 #[derive(Clone, Copy)]
 struct Asked<'a> {
     room: usize,

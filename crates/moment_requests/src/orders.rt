@@ -1,5 +1,6 @@
 // Requests of moments. The function of each takes the words after its name. A list longer than 16 is
-// read, and refused by the library: 17 of it are enough for that, whatever they are.
+// read, and refused by the library: 17 of it are enough for that, whatever they are. They stand in an
+// array, since a Vec may find no memory.
 ghost use Rattle.std.specs.Prelude.{◌≡◌};
 ghost use Rattle.protocol.specs.Words.{only};
 ghost use Rattle.replies.specs.Requests.{only_or};

@@ -50,7 +50,7 @@ pub fn read_next_fractions<const N: usize>(s: &[u8]) -> Option<([f64; N], &[u8])
     let mut xs = [0.0; N];
     let mut rest = s;
     for x in &mut xs {
-        let (value, after) = protocol::read_next(rest)?;
+        let (value, after) = protocol::read_next::<f64>(rest)?;
         *x = value;
         rest = after;
     }

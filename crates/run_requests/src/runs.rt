@@ -1,5 +1,6 @@
 // The request of several runs. A list of moments longer than 16 is read, and refused by the library. A
-// weight has 17 bytes of a line of at most 65,535, so a line has fewer than 4,096 of them.
+// weight has 17 bytes of a line of at most 65,535, so a line has fewer than 4,096 of them; and there are
+// at most 64 rows. Both stand in arrays, since a Vec may find no memory; the moments' is the state's own.
 ghost use Rattle.std.specs.Prelude.{◌+◌, ◌*◌, ◌≤◌, ◌≡◌, length};
 ghost use Rattle.protocol.specs.Words.{only};
 ghost use Rattle.replies.specs.Requests.{only_or};
@@ -58,7 +59,10 @@ fn fill(m: M2N, weights: &[f64], places: usize, xs: &mut [f64]) -> Reply
     match ef3m_runs::mp_fit(m, weights, &mut rows[..room.min(64)]) {
         Ok(n) => {
             put_rows(xs, &rows[..n]);
-            Reply::Listed { count: n, len: 6 * n }
+            Reply::Listed {
+                count: n,
+                len: 6 * n,
+            }
         }
         Err(refusal) => Reply::Refused(refusal),
     }

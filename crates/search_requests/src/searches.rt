@@ -1,5 +1,6 @@
 // The request of one search. A list of moments longer than 16 is read, and refused by the library. A
-// weight has 17 bytes of a line of at most 65,535 bytes, so a line has fewer than 4,096 of them.
+// weight has 17 bytes of a line of at most 65,535 bytes, so a line has fewer than 4,096 of them. They
+// stand in an array, since a Vec may find no memory; the moments' is the state's own.
 ghost use Rattle.std.specs.Prelude.{◌≡◌};
 ghost use Rattle.text.specs.Meaning.{got_of};
 ghost use Rattle.protocol.specs.Words.{only};

@@ -1,5 +1,6 @@
 // Requests of one step of the fit. The function of both takes the words after a name. A list longer
-// than 16 is read, and refused by the library: 17 of it are enough for that, whatever they are.
+// than 16 is read, and refused by the library: 17 of it are enough for that, whatever they are. They
+// stand in an array, since a Vec may find no memory.
 ghost use Rattle.std.specs.Prelude.{◌≡◌};
 ghost use Rattle.protocol.specs.Words.{only};
 ghost use Rattle.step_requests.specs.Steps.{one_step, step_reply, stepping, steps};

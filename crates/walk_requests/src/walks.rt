@@ -1,4 +1,5 @@
-// The request of a walk. A list longer than 16 is read, and refused by the library.
+// The request of a walk. A list longer than 16 is read, and refused by the library. The array is the
+// state's own.
 ghost use Rattle.std.specs.Prelude.{◌≡◌};
 ghost use Rattle.protocol.specs.Words.{only};
 ghost use Rattle.walk_requests.specs.Walks.{walk, walked_reply, walks};
