@@ -1,14 +1,13 @@
 -- A list in a request, as it was read into places that may be fewer: its values, and those that had a place. By cases on what was read, and by induction on the values. Assumes nothing.
-use Prim.Native.Nat.{ℕ, suc, ◌-◌, ◌^◌, ◌<◌, min}
+use Prim.Native.Nat.{ℕ, suc, ◌-◌, ◌^◌, ◌<◌}
 use mathlib.Core.Path.{◌≡◌, refl, sym, ◌∙◌, ap}
 use mathlib.Core.Bool.{Bool, true, false}
 use mathlib.Core.List.{List, [], ◌∷◌}
 use native.Mathlib.Omega.{arith}
 use borrow.Author.Tests.{leb-true, leb-false}
 use lib.Dec.{leb}
-use lib.ListN.{drop, length, set, take}
+use lib.ListN.{length, set, take}
 use lib.Seq.{length-sets, length-take-le, sets, take_all, take-nil}
-use Rattle.std.proofs.lemmas.List.{drop_min, take_min}
 use Rattle.text.specs.Decode.{Got, got, bad, ◌▷◌}
 use Rattle.protocol.specs.Words.{next_natural}
 use Rattle.protocol_lists.specs.Lists.{a_list, entries_of, in_front, list_in, list_of, many, or_none, values_of}
@@ -28,14 +27,6 @@ module _ {A : Type 0} where
   front [] old = sym (take-nil (length old))
   front (a ∷ vs) [] = rw (no_place vs 1)
   front (a ∷ vs) (o ∷ old) = rw (behind vs a old 0) (ap (λ (l : List A). a ∷ l) (front vs old))
-
--- ---- a part that begins or ends at n, or at the end of the list where n is past it, as `n.min(m.len())` answers k
-module _ {A : Type 0} (k n : ℕ) (m : List A) (e : k ≡ min n (length m)) where
-  pub take_least : take k m ≡ take n m
-  take_least = rw (e, take_min n m)
-
-  pub drop_least : drop k m ≡ drop n m
-  drop_least = rw (e, drop_min n m)
 
 -- ---- what is the same for every list of more than n entries can be asked of n + 1 of them
 module _ {A B : Type 0} (n : ℕ) (f : List A → B) (x : B) (same : (m : List A) → n < length m → f m ≡ x) where
