@@ -1,11 +1,12 @@
-// Requests of the counts and the budget over spans. A side has 17 bytes of a line, so a line has
-// fewer than 4,096 of them. More starts or ends are unequal to them in number, also when cut to their
-// 4,096 places.
+// Requests of the counts and the budget over spans. A side has 17 bytes of a line of at most 65,535, so a
+// line has fewer than 4,096 of them. More starts or ends are unequal to them in number, also when cut to
+// their 4,096 places. Arrays hold them, as in all kinds of requests: a Vec may find no memory.
 ghost use Rattle.std.specs.Prelude.{◌≤◌, ◌≡◌, length};
 ghost use Rattle.bet_requests.specs.Spans.{asked_in, left_by, reply_of, sides_in, sides_rows, sizes_in, sizes_rows, spans, spans_in, words};
 ghost use Rattle.protocol.specs.Words.{only};
 ghost use Rattle.replies.specs.Requests.{only_or};
 
+use protocol_lists::kept;
 use refusal::Refusal;
 use replies::{Columns, Reply, SpanRows};
 
@@ -30,7 +31,10 @@ enum Kind {
     Budget,
 }
 
-// What is asked: the room for the answer, the place in the line before the starts, and the spans.
+// What is asked: the room for the answer, the place in the line before the starts, and the spans. A place
+// and no slice, as in SpanRows: with a slice `Reply` has a lifetime, and so has each kind's `answer`; and
+// since a contract says of a slice what it holds, the definitions need a second `Reply`, as they have a
+// second `Asked`.
 #[derive(Clone, Copy)]
 struct Asked<'a> {
     room: usize,
@@ -46,7 +50,7 @@ fn request(kind: Kind, size: usize, s: &[u8], xs: &mut [f64]) -> Option<Reply>
     ensures { (result ≡ only (words (reply_of kind (length xs.old)) size s.now))
         × (xs.new ≡ only_or xs.old (words (left_by kind xs.old) size s.now)) }
 {
-    let (room, s) = protocol::read_next_natural(s, u64::MAX)?;
+    let (room, s) = protocol::read_next(s)?;
     // What is left is part of the line, so this is its place. Saturating, it asks for no proof of that.
     let from = size.saturating_sub(s.len());
     let mut starts = [0i64; 4096];
@@ -56,11 +60,11 @@ fn request(kind: Kind, size: usize, s: &[u8], xs: &mut [f64]) -> Option<Reply>
     let mut sides = [0.0f64; 4096];
     let n_sides = protocol::only(protocol_lists::read_next_list(s, &mut sides))?;
     let asked = Asked {
-        room: room as usize,
+        room,
         from,
-        starts: &starts[..n_starts.min(4096)],
-        ends: &ends[..n_ends.min(4096)],
-        sides: &sides[..n_sides.min(4096)],
+        starts: kept(&starts, n_starts),
+        ends: kept(&ends, n_ends),
+        sides: kept(&sides, n_sides),
     };
     let rows = match kind {
         Kind::ConcurrentSides => concurrent_sides(asked, xs),

@@ -7,6 +7,7 @@ use Rattle.float.specs.Power.{power}
 use Rattle.float.specs.Root.{root}
 use Rattle.text.specs.Decode.{Got}
 use Rattle.protocol.specs.Words.{next_fraction, next_instant, next_natural}
+use Rattle.protocol_lists.specs.Lists.{at, fractions}
 use Rattle.replies.specs.Requests.{◌>>=◌, named, reply}
 use Rattle.replies.specs.declared.forms.Reply.{Reply}
 use Rattle.replies.specs.declared.forms.Reply.TheVariants.{Fraction, Instant, Natural}
@@ -38,9 +39,8 @@ i64_as_f64 = of_one next_instant (λ n. Fraction (of_int binary64 n))
 
 abbrev pub larger : List ℕ → Got Reply
 larger = do
-  x ← next_fraction
-  y ← next_fraction
-  reply (Fraction (larger_of x y))
+  v ← fractions 2
+  reply (Fraction (larger_of (at v 0) (at v 1)))
 
 abbrev pub powi : List ℕ → Got Reply
 powi = do

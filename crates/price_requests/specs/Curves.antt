@@ -1,16 +1,12 @@
 -- The requests of the sigmoid curve, each by its words and what they come to, and the reply to a line. Definitions only.
-use Rattle.std.specs.Prelude.{ℕ, List, Float, Option, None, get_or}
-use Rattle.std.specs.Float.{nan}
+use Rattle.std.specs.Prelude.{ℕ, List, Option, None}
 use Rattle.prices.specs.Prices.{get_w_sigmoid, inv_price_sigmoid}
 use Rattle.limit_price.specs.LimitPrice.{limit_price_sigmoid}
 use Rattle.text.specs.Decode.{Got}
-use Rattle.protocol_lists.specs.Lists.{fractions}
+use Rattle.protocol_lists.specs.Lists.{at, fractions}
 use Rattle.replies.specs.Requests.{◌>>=◌, named, or_refused, reply}
 use Rattle.replies.specs.declared.forms.Reply.{Reply}
 use Rattle.replies.specs.declared.forms.Reply.TheVariants.{Fraction}
-
-abbrev at : List Float → ℕ → Float
-at v i = get_or v i nan
 
 abbrev pub w_sigmoid : List ℕ → Got Reply
 w_sigmoid = do

@@ -22,16 +22,16 @@ pub(crate) fn put(text: &mut Text, r: SpanRows, s: &[u8], xs: &[f64])
 fn put_rows(text: &mut Text, columns: Columns, s: &[u8], xs: &[f64])
     ensures { Puts text.old text.new (rows_from columns xs.now 0 (starts s.now)) }
 {
-    let Some((n, starts)) = protocol::read_next_natural(s, u64::MAX) else {
+    let Some((n, starts)) = protocol::read_next::<usize>(s) else {
         return;
     };
     let mut rest = starts;
     for i in 0..n {
-        let Some((t, after)) = protocol::read_next_instant(rest) else {
+        let Some((t, after)) = protocol::read_next::<i64>(rest) else {
             return;
         };
         numbers::put_instant(text, t);
-        put_entries(text, columns, xs, i as usize);
+        put_entries(text, columns, xs, i);
         rest = after;
     }
 }

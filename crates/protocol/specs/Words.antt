@@ -20,12 +20,19 @@ module _ {A : Type 0} where
 abbrev pub a_fraction : List ℕ → Got Float
 a_fraction s = hexes 16 0 s ▷ (λ n t. got (of_bits binary64 n) t)
 
+abbrev pub a_natural : ℕ → List ℕ → Got ℕ
+a_natural limit s = up_to limit (natural s)
+
 -- each after a blank
+module _ {A : Type 0} where
+  abbrev pub next : (List ℕ → Got A) → List ℕ → Got A
+  next form s = word (bytes " ") s ▷ (λ u t. form t)
+
 abbrev pub next_fraction : List ℕ → Got Float
-next_fraction s = word (bytes " ") s ▷ (λ u t. a_fraction t)
+next_fraction = next a_fraction
 
 abbrev pub next_natural : ℕ → List ℕ → Got ℕ
-next_natural limit s = word (bytes " ") s ▷ (λ u t. up_to limit (natural t))
+next_natural limit = next (a_natural limit)
 
 abbrev pub next_instant : List ℕ → Got ℤ
-next_instant s = word (bytes " ") s ▷ (λ u t. instant t)
+next_instant = next instant

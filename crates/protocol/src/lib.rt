@@ -2,9 +2,10 @@
 // crate `replies`; each crate of kinds of requests stands on these.
 #![tactic(auto)]
 
-ghost use Rattle.std.specs.Prelude.{◌≡◌};
+ghost use Rattle.std.specs.Prelude.{◌≡◌, ◌-◌, ◌^◌, ℕ, List};
+ghost use Rattle.text.specs.Decode.{Got, instant};
 ghost use Rattle.text.specs.Meaning.{got_of, left_of};
-ghost use Rattle.protocol.specs.Words.{a_fraction, next_fraction, next_instant, next_natural, only, words_after};
+ghost use Rattle.protocol.specs.Words.{a_fraction, a_natural, next, next_natural, only, words_after};
 
 // The words of a request that begins with a name: what follows the name, from the blank on.
 pub fn words_after<'a>(s: &'a [u8], name: &[u8]) -> Option<&'a [u8]>
@@ -20,22 +21,49 @@ pub fn only<T: Copy>(read: Option<(T, &[u8])>) -> Option<T>
     ensures { result ≡ only (got_of read.entry) }
 {
     let (value, rest) = read?;
-    if rest.is_empty() { Some(value) } else { None }
+    rest.is_empty().then_some(value)
+}
+
+// What is read from a word of a request, or from an entry of a list.
+pub trait Entry: Copy {
+    ghost form: { List ℕ → Got Self };
+
+    fn read(s: &[u8]) -> Option<(Self, &[u8])>
+        ensures { form s.now ≡ got_of result };
 }
 
 // A fraction. NaNs are one class: each pattern of one reads as NaN, and one is written.
-pub fn read_fraction(s: &[u8]) -> Option<(f64, &[u8])>
-    ensures { a_fraction s.now ≡ got_of result }
-{
-    let (bits, rest) = text_read::read_hex(s)?;
-    Some((std::num::f64_from_bits_with_nan(bits), rest))
+impl Entry for f64 {
+    ghost form = { a_fraction };
+
+    fn read(s: &[u8]) -> Option<(f64, &[u8])> {
+        let (bits, rest) = text_read::read_hex(s)?;
+        Some((std::num::f64_from_bits_with_nan(bits), rest))
+    }
 }
 
-// The fraction after a blank.
-pub fn read_next_fraction(s: &[u8]) -> Option<(f64, &[u8])>
-    ensures { next_fraction s.now ≡ got_of result }
+impl Entry for i64 {
+    ghost form = { instant };
+
+    fn read(s: &[u8]) -> Option<(i64, &[u8])> {
+        text_read::read_instant(s)
+    }
+}
+
+impl Entry for usize {
+    ghost form = { a_natural (2 ^ 64 - 1) };
+
+    fn read(s: &[u8]) -> Option<(usize, &[u8])> {
+        let (n, rest) = text_read::read_natural(s, u64::MAX)?;
+        Some((n as usize, rest))
+    }
+}
+
+// The entry after a blank.
+pub fn read_next<T: Entry>(s: &[u8]) -> Option<(T, &[u8])>
+    ensures { next T.form s.now ≡ got_of result }
 {
-    read_fraction(text_read::read_word(s, b" ")?)
+    T::read(text_read::read_word(s, b" ")?)
 }
 
 // The whole number up to `limit` after a blank.
@@ -43,11 +71,4 @@ pub fn read_next_natural(s: &[u8], limit: u64) -> Option<(u64, &[u8])>
     ensures { next_natural limit s.now ≡ got_of result }
 {
     text_read::read_natural(text_read::read_word(s, b" ")?, limit)
-}
-
-// The instant after a blank.
-pub fn read_next_instant(s: &[u8]) -> Option<(i64, &[u8])>
-    ensures { next_instant s.now ≡ got_of result }
-{
-    text_read::read_instant(text_read::read_word(s, b" ")?)
 }

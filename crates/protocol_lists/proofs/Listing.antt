@@ -1,14 +1,13 @@
 -- A list in a request, as it was read into places that may be fewer: its values, and those that had a place. By cases on what was read, and by induction on the values. Assumes nothing.
-use Prim.Native.Nat.{ℕ, suc, ◌-◌, ◌^◌, ◌<◌, min}
+use Prim.Native.Nat.{ℕ, suc, ◌-◌, ◌^◌, ◌<◌}
 use mathlib.Core.Path.{◌≡◌, refl, sym, ◌∙◌, ap}
 use mathlib.Core.Bool.{Bool, true, false}
 use mathlib.Core.List.{List, [], ◌∷◌}
 use native.Mathlib.Omega.{arith}
 use borrow.Author.Tests.{leb-true, leb-false}
 use lib.Dec.{leb}
-use lib.ListN.{drop, length, set, take}
+use lib.ListN.{length, set, take}
 use lib.Seq.{length-sets, length-take-le, sets, take_all, take-nil}
-use Rattle.std.proofs.lemmas.List.{drop_min, take_min}
 use Rattle.text.specs.Decode.{Got, got, bad, ◌▷◌}
 use Rattle.protocol.specs.Words.{next_natural}
 use Rattle.protocol_lists.specs.Lists.{a_list, entries_of, in_front, list_in, list_of, many, or_none, values_of}
@@ -28,14 +27,6 @@ module _ {A : Type 0} where
   front [] old = sym (take-nil (length old))
   front (a ∷ vs) [] = rw (no_place vs 1)
   front (a ∷ vs) (o ∷ old) = rw (behind vs a old 0) (ap (λ (l : List A). a ∷ l) (front vs old))
-
--- ---- a part that begins or ends at n, or at the end of the list where n is past it, as `n.min(m.len())` answers k
-module _ {A : Type 0} (k n : ℕ) (m : List A) (e : k ≡ min n (length m)) where
-  pub take_least : take k m ≡ take n m
-  take_least = rw (e, take_min n m)
-
-  pub drop_least : drop k m ≡ drop n m
-  drop_least = rw (e, drop_min n m)
 
 -- ---- what is the same for every list of more than n entries can be asked of n + 1 of them
 module _ {A B : Type 0} (n : ℕ) (f : List A → B) (x : B) (same : (m : List A) → n < length m → f m ≡ x) where
@@ -88,13 +79,8 @@ module _ {A : Type 0} (form : List ℕ → Got A) where
     pub list_got : a_list form t ≡ got (listed t) u
     list_got = (by_count n u (next_natural (2 ^ 64 - 1) t) is).1
 
-    -- what was read into the list old, v after it
-    list_front : (old v : List A) → v ≡ list_in form old t → take n v ≡ take (length old) (listed t)
-    list_front old v e = rw (e, ← list_long) (front (listed t) old)
-
-    -- of it, those that had a place
-    pub list_first : (old : List A) {v : List A} {m places : ℕ} → v ≡ list_in form old t → m ≡ min n places → places ≡ length v
-        → take m v ≡ take places (listed t)
-    list_first old {v} {m} {places} e few long =
+    -- of what was read into the list old, v after it, those that had one of its places
+    pub list_first : (old : List A) (places : ℕ) {v : List A} → v ≡ list_in form old t → places ≡ length v → take n v ≡ take places (listed t)
+    list_first old places e long =
         let same : length old ≡ places = sym (long ∙ ap length e ∙ (simp length-sets)) in
-        take_least _ _ _ (few ∙ ap (min n) long) ∙ list_front old v e ∙ ap (λ (l : ℕ). take l (listed t)) same
+        rw (e, ← same, ← list_long) (front (listed t) old)

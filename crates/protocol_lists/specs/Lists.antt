@@ -1,5 +1,6 @@
 -- Lists of words of a request, and the state, decoded. Definitions only.
-use Rattle.std.specs.Prelude.{ℕ, zero, suc, ◌-◌, ◌^◌, List, [], ◌∷◌, Float, ℤ}
+use Rattle.std.specs.Prelude.{ℕ, zero, suc, ◌-◌, ◌^◌, List, [], ◌∷◌, Float, ℤ, get_or}
+use Rattle.std.specs.Float.{nan}
 use Rattle.std.proofs.lemmas.List.Edits.{sets}
 use Rattle.moments.specs.Lists.{five_of, params_of}
 use Rattle.text.specs.Decode.{Got, got, bad, ◌▷◌}
@@ -50,6 +51,10 @@ module _ {A : Type 0} where
 
 abbrev pub fractions : ℕ → List ℕ → Got (List Float)
 fractions n s = many next_fraction n s
+
+-- of fractions in a row, the one at a place
+abbrev pub at : List Float → ℕ → Float
+at v i = get_or v i nan
 
 abbrev pub fraction_list : List ℕ → Got (List Float)
 fraction_list s = a_list next_fraction s

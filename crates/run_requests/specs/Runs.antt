@@ -2,8 +2,8 @@
 use Rattle.std.specs.Prelude.{ℕ, ◌*◌, ◌-◌, ◌/◌, ◌^◌, min, List, ◌++◌, Float, Option, None, drop, length, replicate, take}
 use Rattle.float.specs.Constants.{nought}
 use Rattle.text.specs.Decode.{Got}
-use Rattle.protocol.specs.Words.{next_fraction, next_natural}
-use Rattle.protocol_lists.specs.Lists.{fraction_list, in_front, next_state}
+use Rattle.protocol.specs.Words.{next_natural}
+use Rattle.protocol_lists.specs.Lists.{at, fraction_list, fractions, in_front, next_state}
 use Rattle.walk.specs.declared.M2N.{M2N}
 use Rattle.walk_requests.specs.Walks.{state_from}
 use Rattle.grid_rows.specs.declared.FitResultRow.{FitResultRow}
@@ -28,14 +28,13 @@ unfoldable pub asked : List ℕ → Got Asked
 asked = do
   variant ← next_natural (2 ^ 64 - 1)
   v ← fraction_list
-  epsilon ← next_fraction
-  factor ← next_fraction
+  w ← fractions 2
   limit ← next_natural (2 ^ 64 - 1)
   runs ← next_natural (2 ^ 64 - 1)
   places ← next_natural (2 ^ 64 - 1)
   state ← next_state
   weights ← fraction_list
-  reply (asked_of (state_from variant (in_front v (replicate 16 nought)) (length v) epsilon factor runs limit state) (take 4096 weights) places)
+  reply (asked_of (state_from variant (in_front v (replicate 16 nought)) (length v) (at w 0) (at w 1) runs limit state) (take 4096 weights) places)
 
 -- ---- what they come to
 -- how many rows there is room for, at six numbers a row, where a lent list has n places

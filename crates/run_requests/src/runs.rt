@@ -1,5 +1,6 @@
 // The request of several runs. A list of moments longer than 16 is read, and refused by the library. A
-// weight has 17 bytes of a line of at most 65,535, so a line has fewer than 4,096 of them.
+// weight has 17 bytes of a line of at most 65,535, so a line has fewer than 4,096 of them; and there are
+// at most 64 rows. Both stand in arrays, since a Vec may find no memory; the moments' is the state's own.
 ghost use Rattle.std.specs.Prelude.{◌+◌, ◌*◌, ◌≤◌, ◌≡◌, length};
 ghost use Rattle.protocol.specs.Words.{only};
 ghost use Rattle.replies.specs.Requests.{only_or};
@@ -22,14 +23,13 @@ fn mp_fit(s: &[u8], xs: &mut [f64]) -> Option<Reply>
     ensures { (result ≡ only (words (runs_reply (length xs.old)) asked s.now))
         × (xs.new ≡ only_or xs.old (words (rows_in xs.old) asked s.now)) }
 {
-    let (variant, s) = protocol::read_next_natural(s, u64::MAX)?;
+    let (variant, s) = protocol::read_next(s)?;
     let mut moments = [0.0; 16];
     let (len, s) = protocol_lists::read_next_list(s, &mut moments)?;
-    let (epsilon, s) = protocol::read_next_fraction(s)?;
-    let (factor, s) = protocol::read_next_fraction(s)?;
-    let (max_iter, s) = protocol::read_next_natural(s, u64::MAX)?;
-    let (n_runs, s) = protocol::read_next_natural(s, u64::MAX)?;
-    let (places, s) = protocol::read_next_natural(s, u64::MAX)?;
+    let ([epsilon, factor], s) = protocol_lists::read_next_fractions::<2>(s)?;
+    let (max_iter, s) = protocol::read_next(s)?;
+    let (n_runs, s) = protocol::read_next(s)?;
+    let (places, s) = protocol::read_next(s)?;
     let (state, s) = protocol_lists::read_next_state(s)?;
     let mut weights = [0.0; 4096];
     let n = protocol::only(protocol_lists::read_next_list(s, &mut weights))?;
@@ -38,14 +38,14 @@ fn mp_fit(s: &[u8], xs: &mut [f64]) -> Option<Reply>
         len,
         epsilon,
         factor,
-        n_runs: n_runs as usize,
-        variant: variant as usize,
-        max_iter: max_iter as usize,
+        n_runs,
+        variant,
+        max_iter,
         new_moments: state.new_moments,
         parameters: state.parameters,
         error: state.error,
     };
-    Some(fill(m, &weights[..n.min(weights.len())], places as usize, xs))
+    Some(fill(m, protocol_lists::kept(&weights, n), places, xs))
 }
 
 // The rows that are new go in front of xs. There is room for as many as are asked for, and as xs has
@@ -59,7 +59,10 @@ fn fill(m: M2N, weights: &[f64], places: usize, xs: &mut [f64]) -> Reply
     match ef3m_runs::mp_fit(m, weights, &mut rows[..room.min(64)]) {
         Ok(n) => {
             put_rows(xs, &rows[..n]);
-            Reply::Listed { count: n, len: 6 * n }
+            Reply::Listed {
+                count: n,
+                len: 6 * n,
+            }
         }
         Err(refusal) => Reply::Refused(refusal),
     }

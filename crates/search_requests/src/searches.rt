@@ -1,5 +1,6 @@
 // The request of one search. A list of moments longer than 16 is read, and refused by the library. A
-// weight has 17 bytes of a line of at most 65,535 bytes, so a line has fewer than 4,096 of them.
+// weight has 17 bytes of a line of at most 65,535 bytes, so a line has fewer than 4,096 of them. They
+// stand in an array, since a Vec may find no memory; the moments' is the state's own.
 ghost use Rattle.std.specs.Prelude.{◌≡◌};
 ghost use Rattle.text.specs.Meaning.{got_of};
 ghost use Rattle.protocol.specs.Words.{only};
@@ -18,13 +19,13 @@ pub fn answer(s: &[u8]) -> Option<Reply>
 fn single_fit(words: &[u8]) -> Option<Reply>
     ensures { result ≡ only (single words.now) }
 {
-    let (variant, words) = protocol::read_next_natural(words, u64::MAX)?;
+    let (variant, words) = protocol::read_next(words)?;
     let mut moments = [0.0; 16];
     let (len, words) = protocol_lists::read_next_list(words, &mut moments)?;
-    let (epsilon, words) = protocol::read_next_fraction(words)?;
+    let (epsilon, words) = protocol::read_next(words)?;
     let (epsilon_override, words) = read_given(words)?;
-    let (factor, words) = protocol::read_next_fraction(words)?;
-    let (max_iter, words) = protocol::read_next_natural(words, u64::MAX)?;
+    let (factor, words) = protocol::read_next(words)?;
+    let (max_iter, words) = protocol::read_next(words)?;
     let (state, words) = protocol_lists::read_next_state(words)?;
     let mut weights = [0.0; 4096];
     let n = protocol::only(protocol_lists::read_next_list(words, &mut weights))?;
@@ -34,13 +35,13 @@ fn single_fit(words: &[u8]) -> Option<Reply>
         epsilon,
         factor,
         n_runs: 1,
-        variant: variant as usize,
-        max_iter: max_iter as usize,
+        variant,
+        max_iter,
         new_moments: state.new_moments,
         parameters: state.parameters,
         error: state.error,
     };
-    let fitted = ef3m::single_fit_through(m, epsilon_override, &weights[..n.min(weights.len())]);
+    let fitted = ef3m::single_fit_through(m, epsilon_override, protocol_lists::kept(&weights, n));
     Some(reply(fitted))
 }
 
@@ -51,7 +52,7 @@ fn read_given(s: &[u8]) -> Option<(Option<f64>, &[u8])>
     if let Some(rest) = text_read::read_word(s, b" -") {
         return Some((None, rest));
     }
-    let (epsilon, rest) = protocol::read_next_fraction(s)?;
+    let (epsilon, rest) = protocol::read_next(s)?;
     Some((Some(epsilon), rest))
 }
 

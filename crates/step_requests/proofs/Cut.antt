@@ -10,15 +10,15 @@ use Rattle.refusal.specs.declared.Refusal.TheVariants.{TooManyMoments}
 use Rattle.iterate.specs.Refusals.{iter4, iter5}
 use Rattle.iterate.proofs.Refusals.{many}
 use Rattle.protocol_lists.proofs.Listing.{cut}
-use Rattle.step_requests.specs.declared.steps.Iter.{Iter}
-use Rattle.step_requests.specs.declared.steps.Iter.TheVariants.{Four, Five}
+use Rattle.walk.specs.declared.Variant.{Variant}
+use Rattle.walk.specs.declared.Variant.TheVariants.{FourMoments, FiveMoments}
 use Rattle.step_requests.specs.Steps.{stepping}
 
 module _ (mu p : Float) where
-  step_many : (iter : Iter) (m : List Float) → 16 < length m → stepping iter m mu p ≡ Err TooManyMoments
+  step_many : (variant : Variant) (m : List Float) → 16 < length m → stepping variant m mu p ≡ Err TooManyMoments
   unfolding iter4 iter5
-  step_many Four m h = sym (many 4 (length m) _ (omega arith) h)
-  step_many Five m h = sym (many 5 (length m) _ (omega arith) h)
+  step_many FourMoments m h = sym (many 4 (length m) _ (omega arith) h)
+  step_many FiveMoments m h = sym (many 5 (length m) _ (omega arith) h)
 
-  pub step_cut : (iter : Iter) (m : List Float) → stepping iter (take 17 m) mu p ≡ stepping iter m mu p
-  step_cut iter m = cut 16 (λ l. stepping iter l mu p) _ (step_many iter) m
+  pub step_cut : (variant : Variant) (m : List Float) → stepping variant (take 17 m) mu p ≡ stepping variant m mu p
+  step_cut variant m = cut 16 (λ l. stepping variant l mu p) _ (step_many variant) m

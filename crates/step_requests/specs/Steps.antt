@@ -1,25 +1,24 @@
 -- The requests of one step of the fit, each by its words and what they come to, and the reply to a line. Definitions only.
 use Rattle.std.specs.Prelude.{ℕ, List, Float, Option, None, Result}
 use Rattle.text.specs.Decode.{Got}
-use Rattle.protocol.specs.Words.{next_fraction}
-use Rattle.protocol_lists.specs.Lists.{fraction_list}
+use Rattle.protocol_lists.specs.Lists.{at, fraction_list, fractions}
 use Rattle.step.specs.declared.Step as step
 use Rattle.iterate.specs.Refusals.{iter4, iter5}
 use Rattle.refusal.specs.declared.Refusal.{Refusal}
 use Rattle.replies.specs.Requests.{◌>>=◌, named, or_refused, reply}
 use Rattle.replies.specs.declared.forms.Reply.{Reply}
-use Rattle.step_requests.specs.declared.steps.Iter.{Iter}
-use Rattle.step_requests.specs.declared.steps.Iter.TheVariants.{Four, Five}
 use Rattle.replies.specs.declared.forms.Reply.TheVariants.{Inadmissible, Parameters}
+use Rattle.walk.specs.declared.Variant.{Variant}
+use Rattle.walk.specs.declared.Variant.TheVariants.{FourMoments, FiveMoments}
 
 -- a step on moments, a mean and a weight
 abbrev pub Stepping : Type 0
 Stepping = List Float → Float → Float → Result step.Step Refusal
 
 -- the one that is asked for
-abbrev pub stepping : Iter → Stepping
-stepping Four = iter4
-stepping Five = iter5
+abbrev pub stepping : Variant → Stepping
+stepping FourMoments = iter4
+stepping FiveMoments = iter5
 
 -- what a step came to, as a reply
 abbrev pub step_reply : step.Step → Reply
@@ -29,9 +28,8 @@ step_reply step.TheVariants.Inadmissible = Inadmissible
 -- the words after the moments
 abbrev pub step_from : Stepping → List Float → List ℕ → Got Reply
 step_from stepped moments = do
-  mu ← next_fraction
-  p ← next_fraction
-  reply (or_refused step_reply (stepped moments mu p))
+  v ← fractions 2
+  reply (or_refused step_reply (stepped moments (at v 0) (at v 1)))
 
 abbrev pub one_step : Stepping → List ℕ → Got Reply
 one_step stepped = do

@@ -26,7 +26,7 @@ fn digit_of(b: u8, base: u64) -> Option<u64>
         _ => return None,
     };
     let digit = digit as u64;
-    if digit < base { Some(digit) } else { None }
+    (digit < base).then_some(digit)
 }
 
 // A decimal number with no leading zeros, of at most limit.
@@ -55,11 +55,7 @@ fn read_digits(s: &[u8], first: u64, limit: u64) -> Option<(u64, &[u8])>
         value = value.checked_mul(10)?.checked_add(digit)?;
         rest = after;
     }
-    if value <= limit {
-        Some((value, rest))
-    } else {
-        None
-    }
+    (value <= limit).then_some((value, rest))
 }
 
 // An instant: a decimal number after at most a minus, and not -0.

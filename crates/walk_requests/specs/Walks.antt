@@ -2,8 +2,8 @@
 use Rattle.std.specs.Prelude.{ℕ, ◌-◌, ◌^◌, List, Float, Option, None, length, replicate}
 use Rattle.float.specs.Constants.{nought}
 use Rattle.text.specs.Decode.{Got}
-use Rattle.protocol.specs.Words.{next_fraction, next_natural}
-use Rattle.protocol_lists.specs.Lists.{fraction_list, in_front, next_state}
+use Rattle.protocol.specs.Words.{next_natural}
+use Rattle.protocol_lists.specs.Lists.{at, fraction_list, fractions, in_front, next_state}
 use Rattle.walk.specs.Parts.{fit_part}
 use Rattle.walk.specs.Walk as walked
 use Rattle.walk.specs.Walk.{walk_of}
@@ -35,12 +35,10 @@ state_from variant moments n epsilon factor runs limit state = record {
 -- the words after the moments; a walk does not read the factor, nor how many runs
 abbrev pub walk_from : ℕ → List Float → ℕ → List ℕ → Got Reply
 walk_from variant moments n = do
-  mu ← next_fraction
-  p ← next_fraction
-  epsilon ← next_fraction
+  w ← fractions 3
   limit ← next_natural (2 ^ 64 - 1)
   state ← next_state
-  reply (walked_reply (walk_of (state_from variant moments n epsilon nought 1 limit state) mu p))
+  reply (walked_reply (walk_of (state_from variant moments n (at w 2) nought 1 limit state) (at w 0) (at w 1)))
 
 -- the state has the moments in front of zeros, as far as there is room for them
 abbrev pub walk : List ℕ → Got Reply

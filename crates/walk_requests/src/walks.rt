@@ -1,4 +1,5 @@
-// The request of a walk. A list longer than 16 is read, and refused by the library.
+// The request of a walk. A list longer than 16 is read, and refused by the library. The array is the
+// state's own.
 ghost use Rattle.std.specs.Prelude.{◌≡◌};
 ghost use Rattle.protocol.specs.Words.{only};
 ghost use Rattle.walk_requests.specs.Walks.{walk, walked_reply, walks};
@@ -15,13 +16,11 @@ pub fn answer(s: &[u8]) -> Option<Reply>
 fn walk(words: &[u8]) -> Option<Reply>
     ensures { result ≡ only (walk words.now) }
 {
-    let (variant, words) = protocol::read_next_natural(words, u64::MAX)?;
+    let (variant, words) = protocol::read_next(words)?;
     let mut moments = [0.0; 16];
     let (len, words) = protocol_lists::read_next_list(words, &mut moments)?;
-    let (mu_2, words) = protocol::read_next_fraction(words)?;
-    let (p_1, words) = protocol::read_next_fraction(words)?;
-    let (epsilon, words) = protocol::read_next_fraction(words)?;
-    let (max_iter, words) = protocol::read_next_natural(words, u64::MAX)?;
+    let ([mu_2, p_1, epsilon], words) = protocol_lists::read_next_fractions::<3>(words)?;
+    let (max_iter, words) = protocol::read_next(words)?;
     let state = protocol::only(protocol_lists::read_next_state(words))?;
     let m = M2N {
         moments,
@@ -29,8 +28,8 @@ fn walk(words: &[u8]) -> Option<Reply>
         epsilon,
         factor: 0.0,
         n_runs: 1,
-        variant: variant as usize,
-        max_iter: max_iter as usize,
+        variant,
+        max_iter,
         new_moments: state.new_moments,
         parameters: state.parameters,
         error: state.error,

@@ -1,10 +1,15 @@
 -- `text_read::read_digits` meets its contract: the digits that are left, after those that made value, decode as all do, and digits only make a number larger (`Steps.antt`).
 -- The measure is how many bytes are left. Assumes nothing.
 use Prim.Native.Nat.{ℕ, ◌+◌, ◌*◌}
-use mathlib.Core.Path.{◌≡◌, ◌∙◌, ap}
+use mathlib.Core.Path.{◌≡◌, ◌∙◌, ap, refl}
+use mathlib.Core.Bool.{Bool, true, false, cond}
+use mathlib.Core.List.{List}
 use native.Mathlib.Omega.{arith}
-use Rattle.text.specs.Decode.{up_to, numeral}
-use Rattle.text.proofs.Steps.{numeral_end, numeral_stop, numeral_more, numeral_over, up_to_in, up_to_out}
+use Rattle.std.specs.Bool.{then_some}
+use Rattle.std.specs.Borrow.{Bor}
+use Rattle.text.specs.Decode.{bad, got, up_to, numeral}
+use Rattle.text.specs.Meaning.{got_of}
+use Rattle.text.proofs.Steps.{numeral_end, numeral_stop, numeral_more, numeral_over}
 use Rattle.text_read.proofs.read_digits.Goals as goal
 use Rattle.text_read.proofs.read_digits.Goals.{in-Some+in_default-digit_of, in_default}
 
@@ -28,21 +33,18 @@ loop-b-preserved c = let l = c.loop-b in
     let e : l.value * 10 + d.digit ≡ c.in_ok-value.value = omega arith in
     l.invariant ∙ numeral_more c.in-Some.ensures.cases.0 l.value d.ensures.0 d.ensures.1 ∙ ap (λ (n : ℕ). numeral n c.in-Some.after.now) e
 
--- where the loop ends, no digit is left
-pub returns-then-value-limit : goal.returns-then-value-limit
-returns-then-value-limit c = let l = c.loop-b in
-    ap (up_to c.args.limit)
-    (l.invariant ∙ elim c.match-split_first.branch [
-      | in-Some+in_default-digit_of w ↦ numeral_stop w.in-Some.ensures.cases.0 l.value w.in_default-digit_of.ensures
-      | in_default w ↦ numeral_end l.value l.rest.now w.in_default.ensures.cases
-    ])
-    ∙ up_to_in c.args.limit l.value l.rest.now (omega arith)
+-- a number, where it is kept
+kept : (b : Bool) (n : ℕ) (s : Bor (List ℕ)) → cond b (got n s.now) bad ≡ got_of (then_some b (n, s))
+kept true n s = refl
+kept false n s = refl
 
-pub returns-else-value-limit : goal.returns-else-value-limit
-returns-else-value-limit c = let l = c.loop-b in
-    ap (up_to c.args.limit)
+-- where the loop ends, no digit is left
+pub returns : goal.returns
+returns c = let l = c.loop-b in
+    rw c.then_some.ensures
+    (ap (up_to c.args.limit)
     (l.invariant ∙ elim c.match-split_first.branch [
       | in-Some+in_default-digit_of w ↦ numeral_stop w.in-Some.ensures.cases.0 l.value w.in_default-digit_of.ensures
       | in_default w ↦ numeral_end l.value l.rest.now w.in_default.ensures.cases
     ])
-    ∙ up_to_out c.args.limit l.value l.rest.now (omega arith)
+    ∙ kept _ l.value l.rest)

@@ -37,9 +37,9 @@ returns c =
     let ends = list_got next_instant _ _ _ c.in_ok-n_ends.ensures.counted in
     let read = c.read_next_list-3.ensures.counted ∙ only_some _ c.in_ok-n_sides.ensures in
     let sides = list_got next_fraction _ _ _ read in
-    let kept_starts = list_first next_instant _ _ _ c.in_ok-n_starts.ensures.counted _ c.in_ok-n_starts.ensures.kept c.min.ensures (omega arith) in
-    let kept_ends = list_first next_instant _ _ _ c.in_ok-n_ends.ensures.counted _ c.in_ok-n_ends.ensures.kept c.min-2.ensures (omega arith) in
-    let kept_sides = list_first next_fraction _ _ _ read _ c.read_next_list-3.ensures.kept c.min-3.ensures (omega arith) in
+    let kept_starts = c.kept.ensures ∙ list_first next_instant _ _ _ c.in_ok-n_starts.ensures.counted _ 4096 c.in_ok-n_starts.ensures.kept (omega arith) in
+    let kept_ends = c.kept-2.ensures ∙ list_first next_instant _ _ _ c.in_ok-n_ends.ensures.counted _ 4096 c.in_ok-n_ends.ensures.kept (omega arith) in
+    let kept_sides = c.kept-3.ensures ∙ list_first next_fraction _ _ _ read _ 4096 c.read_next_list-3.ensures.kept (omega arith) in
     rw (c.in_ok-room.ensures, starts, ends, sides, ← kept_starts, ← kept_ends, ← kept_sides)
     (elim c.match-kind.branch [
       | in-ConcurrentSides w ↦ search rules

@@ -11,5 +11,5 @@ use Rattle.moment_requests.proofs.orders.centered_moment.Goals as goal
 pub returns : goal.returns
 returns c =
     let read = c.read_next_list.ensures.counted ∙ only_some _ c.in_ok-n.ensures in
-    let kept = list_first next_fraction _ _ _ read _ c.read_next_list.ensures.kept c.min.ensures (omega arith) in
+    let kept = c.kept.ensures ∙ list_first next_fraction _ _ _ read _ 17 c.read_next_list.ensures.kept (omega arith) in
     rw (c.in_ok-order.ensures, list_got next_fraction _ _ _ read, ← centred_cut, ← kept) (search rules)

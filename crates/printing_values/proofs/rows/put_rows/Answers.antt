@@ -12,14 +12,14 @@ pub returns-in_default : goal.returns-in_default
 unfolding rows_from
 returns-in_default c = rw c.in_default.ensures puts_none
 
-pub returns-in_default-read_next_instant : goal.returns-in_default-read_next_instant
-returns-in_default-read_next_instant c =
-    rw c.in-Some.ensures (no_start _ _ _ _ _ (omega arith) c.in_default-read_next_instant.ensures c.loop-i.invariant)
+pub returns-in_default-read_next : goal.returns-in_default-read_next
+returns-in_default-read_next c =
+    rw c.in-Some.ensures (no_start _ _ _ _ _ (omega arith) c.in_default-read_next.ensures c.loop-i.invariant)
 
 pub loop-i-preserved : goal.loop-i-preserved
 loop-i-preserved c =
-    let p = rw (to_z-of_z w64 c.in-Some-read_next_instant.t (search rules)) at c.put_instant.ensures in
-    left_row _ _ _ _ _ (omega arith) c.in-Some-read_next_instant.ensures c.loop-i.invariant p c.put_entries.ensures
+    let p = rw (to_z-of_z w64 c.in-Some-read_next.t (search rules)) at c.put_instant.ensures in
+    left_row _ _ _ _ _ (omega arith) c.in-Some-read_next.ensures c.loop-i.invariant p c.put_entries.ensures
 
 pub returns : goal.returns
 returns c = rw c.in-Some.ensures (no_row _ _ _ _ _ (omega arith) c.loop-i.invariant)

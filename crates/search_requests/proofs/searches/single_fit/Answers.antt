@@ -20,6 +20,6 @@ returns c =
     let long = list_long next_fraction _ _ _ c.in_ok-len.ensures.counted in
     let read = c.read_next_list-2.ensures.counted ∙ only_some _ c.in_ok-n.ensures in
     let weights = list_got next_fraction _ _ _ read in
-    let kept = list_first next_fraction _ _ _ read _ c.read_next_list-2.ensures.kept c.min.ensures (omega arith) in
+    let kept = c.kept.ensures ∙ list_first next_fraction _ _ _ read _ 4096 c.read_next_list-2.ensures.kept (omega arith) in
     rw (c.in_ok-variant.ensures, moments, c.in_ok-epsilon.ensures, c.in_ok-epsilon_override.ensures, c.in_ok-factor.ensures, c.in_ok-max_iter.ensures, c.in_ok-state.ensures, weights, ← kept, long, ← c.in_ok-len.ensures.kept, c.reply.ensures, c.single_fit_through-fitted.ensures)
     refl

@@ -10,5 +10,5 @@ use Rattle.step_requests.proofs.steps.one_step.Goals as goal
 
 pub returns : goal.returns
 returns c =
-    let kept = list_first next_fraction _ _ _ c.in_ok-n.ensures.counted _ c.in_ok-n.ensures.kept c.min.ensures (omega arith) in
-    rw (list_got next_fraction _ _ _ c.in_ok-n.ensures.counted, c.in_ok-mu_2.ensures, c.read_next_fraction-2.ensures ∙ only_some _ c.in_ok-p_1.ensures, ← step_cut, ← kept) (search rules)
+    let kept = c.kept.ensures ∙ list_first next_fraction _ _ _ c.in_ok-n.ensures.counted _ 17 c.in_ok-n.ensures.kept (omega arith) in
+    rw (list_got next_fraction _ _ _ c.in_ok-n.ensures.counted, c.read_next_fractions.ensures ∙ only_some _ c.in_ok-mu_2.ensures, ← step_cut, ← kept) (search rules)

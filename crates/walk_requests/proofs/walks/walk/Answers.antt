@@ -9,7 +9,7 @@ use Rattle.walk_requests.proofs.walks.walk.Goals as goal
 pub returns-in_err-state : goal.returns-in_err-state
 returns-in_err-state c =
     let read = c.in_ok-len.ensures.counted in
-    rw (c.from_residual-in_err-state.ensures, c.in_ok-variant.ensures, list_got next_fraction _ _ _ read, c.in_ok-mu_2.ensures, c.in_ok-p_1.ensures, c.in_ok-epsilon.ensures, c.in_ok-max_iter.ensures, c.read_next_state.ensures)
+    rw (c.from_residual-in_err-state.ensures, c.in_ok-variant.ensures, list_got next_fraction _ _ _ read, c.in_ok-mu_2.ensures, c.in_ok-max_iter.ensures, c.read_next_state.ensures)
     (only_none _ _ c.in_err-state.ensures)
 
 pub returns : goal.returns
@@ -17,5 +17,5 @@ unfolding of_bits
 returns c =
     let read = c.in_ok-len.ensures.counted in
     let state = c.read_next_state.ensures ∙ only_some _ c.in_ok-state.ensures in
-    rw (c.in_ok-variant.ensures, list_got next_fraction _ _ _ read, list_long next_fraction _ _ _ read, c.in_ok-mu_2.ensures, c.in_ok-p_1.ensures, c.in_ok-epsilon.ensures, c.in_ok-max_iter.ensures, state, c.reply.ensures, c.iterate_from.ensures, c.in_ok-len.ensures.kept)
+    rw (c.in_ok-variant.ensures, list_got next_fraction _ _ _ read, list_long next_fraction _ _ _ read, c.in_ok-mu_2.ensures, c.in_ok-max_iter.ensures, state, c.reply.ensures, c.iterate_from.ensures, c.in_ok-len.ensures.kept)
     refl
