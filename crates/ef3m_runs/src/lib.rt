@@ -21,6 +21,7 @@ fn fill(rows: &mut [FitResultRow], flat: &[f64], n: usize)
 }
 
 // Several runs, whose rows go into the first of the lent ones.
+#[tactic(auto, using(crate::proofs::Read::outcome_is, crate::proofs::Read::rows_are, crate::proofs::Read::rows_fit, crate::proofs::Read::rows_stay))]
 pub fn mp_fit(m: M2N, weights: &[f64], rows: &mut [FitResultRow]) -> Result<usize, Refusal>
     ensures { (result ≡ mp_fit m weights.now (length rows.old))
         × (rows.new ≡ mp_rows m weights.now rows.old) }

@@ -7,10 +7,9 @@ use native.Mathlib.Omega.{arith}
 use native.Mathlib.Numerals.{add-one}
 use lib.Dec.{eqb, ltb}
 use lib.ListN.{length, take, drop, replicate, length-append}
-use lib.Ieee.{Float}
+use lib.Ieee.{Float, binary64, of_bits}
 use borrow.Author.Tests.{eqb-true, ltb-false}
 use borrow.Author.Rules.{part_to_end}
-use Rattle.float.specs.Constants.{nought}
 use Rattle.walk.specs.declared.M2N.{M2N}
 use Rattle.std.proofs.Common.{Option, Some, None, Result, Ok, Err}
 use Rattle.refusal.specs.Numbers.{Checked, unless_refused}
@@ -87,8 +86,8 @@ turn m ws k rows count after numbers l f h e hf hn hc hp =
 flat : Checked → List FitResultRow → Flat
 flat r rows = record { numbers = flat_in64 rows; outcome = unless_refused r (length rows) }
 
-pub refused : (m : M2N) (ws : List Float) (places : ℕ) (e : Refusal) → Err e ≡ runs_refusal m ws places → ◌≡◌ {A = Flat} (record { numbers = replicate 384 nought; outcome = Err e }) (flat_fit m ws places)
-unfolding flat flat_fit mp_fit run_rows flat_in64 flat_of
+pub refused : (m : M2N) (ws : List Float) (places : ℕ) (e : Refusal) → Err e ≡ runs_refusal m ws places → ◌≡◌ {A = Flat} (record { numbers = replicate 384 (of_bits binary64 0); outcome = Err e }) (flat_fit m ws places)
+unfolding flat flat_fit mp_fit run_rows flat_in64 flat_of of_bits
 refused m ws places e h = ap (λ r. flat r (unrefused r (rows_to m ws m.n_runs))) h
 
 pub allowed : (m : M2N) (ws : List Float) (places : ℕ) (r : Flat) → Ok tt ≡ runs_refusal m ws places → r ≡ all_runs m ws → r ≡ flat_fit m ws places

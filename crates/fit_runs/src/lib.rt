@@ -30,6 +30,7 @@ fn put(numbers: &mut [f64], count: usize, o: Result<Option<FitResultRow>, Refusa
 
 // Each run starts from the same state and takes the next weights. No `chunks`: a search may have 0 rows, and
 // a chunk has at least one number.
+#[tactic(auto, using(crate::proofs::Running::room))]
 fn all(m: M2N, weights: &[f64]) -> Flat
     requires { Runnable m weights.now }
     ensures { result ≡ all_runs m weights.now }
@@ -49,6 +50,7 @@ fn all(m: M2N, weights: &[f64]) -> Flat
 
 // Several runs, each from a copy of the state and with the next weights. `places` is how many rows the
 // caller has room for.
+#[tactic(auto, using(crate::proofs::Running::runs_known, crate::proofs::Running::refused, crate::proofs::Running::allowed))]
 pub fn mp_fit_flat(m: M2N, weights: &[f64], places: usize) -> Flat
     ensures { result ≡ flat_fit m weights.now places }
 {

@@ -36,6 +36,7 @@ impl FitResultRow {
     }
 
     // Puts the row's six numbers in place i of flat rows. Where there is no such place nothing is put.
+    #[tactic(auto, using(crate::proofs::Places::row_copied))]
     pub fn put_at(self, numbers: &mut [f64], i: usize)
         ensures { numbers.new ≡ with_row_in numbers.old i self }
     {

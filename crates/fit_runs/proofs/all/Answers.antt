@@ -4,18 +4,12 @@ use Prim.Native.Nat.{◌<◌}
 use native.Mathlib.Omega.{arith}
 use lib.Ieee.{of_bits}
 use Rattle.fit_runs.specs.Runs.{rows_to, flat_of, flat_in64}
-use Rattle.fit_runs.proofs.Running.{room, turn}
+use Rattle.fit_runs.proofs.Running.{turn}
 use Rattle.fit_runs.proofs.all.Goals as goal
 
 pub loop-k-init : goal.loop-k-init
 unfolding rows_to flat_in64 flat_of of_bits
 loop-k-init c = (refl, refl)
-
-pub put-count-requires : goal.put-count-requires
-put-count-requires c =
-    let l = c.loop-k in
-    let h : l.k < 64 = omega (arith, c.requires.0, c.loop-k-test.true) in
-    room c.args.m c.args.weights.now l.k _ _ h l.invariant.0 l.invariant.1
 
 pub loop-k-preserved : goal.loop-k-preserved
 loop-k-preserved c =
