@@ -52,7 +52,7 @@ fn read_given(s: &[u8]) -> Option<(Option<f64>, &[u8])>
     if let Some(rest) = text_read::read_word(s, b" -") {
         return Some((None, rest));
     }
-    let (epsilon, rest) = protocol::read_next(s)?;
+    let (epsilon, rest) = protocol::read_next::<f64>(s)?;
     Some((Some(epsilon), rest))
 }
 
