@@ -43,6 +43,7 @@ fn of_casts(s: &[u8]) -> Option<Reply>
     None
 }
 
+// Not in `answer` as the others: of a closure that takes `[x, y]` the check does not find what it answers.
 fn larger(words: &[u8]) -> Option<Reply>
     ensures { result ≡ only (larger words.now) }
 {
