@@ -42,8 +42,8 @@ fn net_counts(starts: &[i64], s: &[u64], e: &[u64], out: &mut [f64])
     for (i, start) in starts.iter().enumerate() {
         let k = number::key(*start);
         let count = sorting::rank_of(s, k).saturating_sub(sorting::rank_of(e, k));
-        // by index, since after an adapter of iter_mut a proof knows nothing of the elements. The u32 spares
-        // a proof that nothing is rounded: f64 holds each u32
+        // by index, since after a zip of iter_mut a proof knows nothing of the elements. The u32 spares a
+        // proof that nothing is rounded: f64 holds each u32
         out[i] = count as u32 as f64;
     }
 }
@@ -70,7 +70,7 @@ impl Spans<'_> {
         for ((start, end), number) in self.starts.iter().zip(self.ends).zip(self.sides) {
             // each is written, and the test only moves the next place: by an `if` round all three, random
             // sides took the same loop in Rust four times as long. By index, since a proof knows nothing of
-            // the elements after an adapter of iter_mut
+            // the elements after a zip of iter_mut
             s[m] = number::key(*start);
             e[m] = number::key(*end);
             m += usize::from(ever_live(side, *start, *end, *number));

@@ -34,13 +34,13 @@ fn sizes_of(long: &[f64], short: &[f64], size: &mut [f64])
     let max_long = largest(long);
     let max_short = largest(short);
     for (i, (live_long, live_short)) in long.iter().zip(short).enumerate() {
-        // by index, since after an adapter of iter_mut a proof knows nothing of the elements
+        // by index, since after a zip of iter_mut a proof knows nothing of the elements
         size[i] = share_of(*live_long, max_long) - share_of(*live_short, max_short);
     }
 }
 
-// Writes the budget size of each span, from three lists as the Rust's function. The counts have room for as many spans as are taken, so they
-// are refused as the sizes are, but for the room of these.
+// Writes the budget size of each span. Three lists, as the Rust's function takes them. The counts have
+// room for as many spans as are taken, so they are refused as the sizes are, but for the room of these.
 pub fn bet_size_budget(
     starts: &[i64],
     ends: &[i64],

@@ -1,4 +1,4 @@
-// The counts and the budget sizes, for C (include/woddirme.h).
+// The counts and the budget sizes, for C (include/woddirme.h). C has no Result: a refusal is its number.
 #![tactic(auto)]
 
 ghost use Rattle.capi_bets.specs.Bets.{BudgetLeaves, SidesLeave};

@@ -1,4 +1,5 @@
-// Widths and prices on the sigmoid curve, for C (include/woddirme.h).
+// Widths and prices on the sigmoid curve, for C (include/woddirme.h). C has no Result: a refusal is its
+// number.
 #![tactic(auto)]
 
 ghost use Rattle.std.specs.Prelude.{◌≡◌};

@@ -57,7 +57,8 @@ pub extern "C" fn woddirme_iter_4(
     refusal::status_of(leave(answer, admitted, numbers))
 }
 
-// One step on five moments (M2N::iter_5), as woddirme_iter_4.
+// One step on five moments (M2N::iter_5), as woddirme_iter_4. Two functions, since the header has two
+// names; what they share is `leave`.
 #[unsafe(no_mangle)]
 pub extern "C" fn woddirme_iter_5(
     moments: &[f64],

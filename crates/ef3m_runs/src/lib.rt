@@ -32,7 +32,7 @@ pub fn mp_fit(m: M2N, weights: &[f64], rows: &mut [FitResultRow]) -> Result<usiz
     Ok(n)
 }
 
-// 64 rows after several runs, and how many of them are new.
+// 64 rows after several runs, and how many of them are new, or why none is.
 #[derive(Clone, Copy)]
 pub struct Runs {
     pub rows: [FitResultRow; 64],

@@ -8,8 +8,9 @@ use grid::FitResultRow;
 use refusal::Refusal;
 use walk::M2N;
 
-// The rows of several runs as flat numbers, six each, zeros behind them; and how many rows there are. C
-// reads a row as six numbers. There is no heap, so it has the places of the most rows, 64, and goes by value.
+// The rows of several runs as flat numbers, six each, zeros behind them; and how many rows there are, or
+// why there are none. C reads a row as six numbers. There is no heap, so it has the places of the most rows,
+// 64, and goes by value.
 #[derive(Clone, Copy)]
 pub struct Flat {
     pub numbers: [f64; 384],

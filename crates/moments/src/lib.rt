@@ -31,6 +31,8 @@ pub struct Five {
     pub m_5: f64,
 }
 
+// Five and Params have their own conversions each way: an impl for both would need a macro, which the gate
+// refuses.
 impl From<Five> for [f64; 5] {
     ghost from_gives = { λ m l. l ≡ listed m };
 
@@ -225,6 +227,7 @@ pub fn raw_moment(central: &[f64], mean: f64, out: &mut [f64]) -> Result<usize, 
     check_raw(central.len(), out.len())?;
     let need = central.len().max(1);
     out[0] = mean;
+    // by index, which is one less than the order
     for i in 1..need {
         out[i] = raw_one(central, mean, i + 1);
     }

@@ -22,6 +22,8 @@ pub fn answer(s: &[u8]) -> Option<Reply>
     None
 }
 
+// Not one with `larger` of number_requests: of a closure that takes `[x, y]` the check does not find what it
+// answers.
 fn w_sigmoid(words: &[u8]) -> Option<Reply>
     ensures { result ≡ only (w_sigmoid words.now) }
 {

@@ -59,7 +59,7 @@ fn take_spans(s: &[u8], starts: &mut [i64], ends: &mut [i64], sides: &mut [f64])
     ensures { HeldBy (sheet s.now) starts.new ends.new sides.new }
 {
     let mut rest = s;
-    // by index, since after an adapter of iter_mut a proof knows nothing of the elements
+    // by index, since after a zip of iter_mut a proof knows nothing of the elements
     for i in 0..starts.len() {
         let Some((span, after)) = sheet_forms::read_line(rest) else {
             return;

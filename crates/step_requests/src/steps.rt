@@ -23,7 +23,7 @@ pub fn answer(s: &[u8]) -> Option<Reply>
 }
 
 // The variant is no `impl Fn`: with the step as one, the contract is about every definition that the calls
-// are equal to and that refuses long lists, and `answer` needs two proofs more.
+// are equal to and that refuses long lists, and three goals are left to prove by hand where now there is one.
 fn one_step(words: &[u8], variant: Variant) -> Option<Reply>
     ensures { result ≡ only (one_step (stepping variant) words.now) }
 {
@@ -34,6 +34,7 @@ fn one_step(words: &[u8], variant: Variant) -> Option<Reply>
     Some(answer.map_or_else(Reply::Refused, reply))
 }
 
+// Of the shape of Variant's own step, but of lists, with their refusals.
 fn stepped(variant: Variant, m: &[f64], mu_2: f64, p_1: f64) -> Result<Step, Refusal>
     ensures { result ≡ stepping variant m.now mu_2 p_1 }
 {

@@ -16,7 +16,7 @@ use refusal::Refusal;
 use step::Step;
 
 // The fit state: the target moments (the first `len` of 16), the settings, and the best fit so far. The
-// moments are an array and a length, since a state is a value of one size, with no heap, and is lent to C.
+// moments are an array and a length, as document 01 names them: a state is a value of one size, with no heap.
 // The last three are a `Fit`; they stand flat, as the Rust's state has them.
 #[derive(Clone, Copy)]
 pub struct M2N {
@@ -123,6 +123,7 @@ pub enum Reason {
     Inadmissible = 3,
 }
 
+// As of Refusal: each enum gives its own number, and an impl for both would need a macro.
 impl From<Reason> for u64 {
     ghost from_gives = { λ reason n. n ≡ number_of reason };
 

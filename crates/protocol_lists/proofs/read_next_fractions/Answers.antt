@@ -7,9 +7,6 @@ use Rattle.protocol.specs.Words.{next_fraction}
 use Rattle.protocol_lists.proofs.Reading.{all_many, all_stored, no_more, none_stored, none_yet, not_many, not_one, one_more, one_stored}
 use Rattle.protocol_lists.proofs.read_next_fractions.Goals as goal
 
-pub loop-x-init : goal.loop-x-init
-loop-x-init g c = record { left = none_yet next_fraction _ _; stored = none_stored next_fraction _ _ _ }
-
 pub returns-in_err-value : goal.returns-in_err-value
 returns-in_err-value g c =
     let l = c.loop-x in
