@@ -3,14 +3,8 @@ use mathlib.Core.Path.{◌∙◌, refl}
 use lib.Ieee.{of_bits}
 use Rattle.protocol.specs.Words.{next_fraction}
 use Rattle.protocol_lists.proofs.Listing.{list_got, list_long}
-use Rattle.replies.proofs.Asking.{only_none, only_some}
+use Rattle.replies.proofs.Asking.{only_some}
 use Rattle.walk_requests.proofs.walks.walk.Goals as goal
-
-pub returns-in_err-state : goal.returns-in_err-state
-returns-in_err-state c =
-    let read = c.in_ok-len.ensures.counted in
-    rw (c.from_residual-in_err-state.ensures, c.in_ok-variant.ensures, list_got next_fraction _ _ _ read, c.in_ok-mu_2.ensures, c.in_ok-max_iter.ensures, c.read_next_state.ensures)
-    (only_none _ _ c.in_err-state.ensures)
 
 pub returns : goal.returns
 unfolding of_bits
