@@ -1,8 +1,10 @@
 -- The fit state as flat numbers, as a C program holds it. Definitions only.
-use Rattle.std.specs.Prelude.{List, ◌∷◌, ◌++◌, ℕ, length, get_or, take, drop, replicate, Float}
+use Rattle.std.specs.Prelude.{List, [], ◌∷◌, ◌++◌, ℕ, ltb, length, get_or, take, drop, replicate, Float}
 use Rattle.float.specs.Constants.{nought}
 use Rattle.moments.specs.Lists.{listed, params_listed}
 use Rattle.moments.specs.declared.Params.{Params}
+use Rattle.refusal.specs.Rules.{Rule, ◌⇒◌}
+use Rattle.refusal.specs.declared.Refusal.TheVariants.{TooLittleRoom}
 use Rattle.walk.specs.declared.M2N.{M2N}
 
 -- number i of a list, 0 past its end
@@ -12,6 +14,10 @@ at l i = get_or l i nought
 -- the first n numbers, zeros where there are fewer
 abbrev pub first : ℕ → List Float → List Float
 first n l = take n l ++ drop (length l) (replicate n nought)
+
+-- 12 numbers of a fit are needed
+abbrev pub fit_rules : List Float → List Rule
+fit_rules fit = ltb (length fit) 12 ⇒ TooLittleRoom ∷ []
 
 -- a fit state from flat numbers: mu_1, mu_2, sigma_1, sigma_2, p_1, error, epsilon, then new_moments, five
 abbrev pub state_of : List Float → ℕ → Float → ℕ → ℕ → List Float → M2N
