@@ -14,7 +14,7 @@ use Rattle.refusal.proofs.Rules.{none_holds}
 use Rattle.refusal.specs.Numbers.{Checked}
 use Rattle.refusal.specs.Rules.{first_refusal}
 use Rattle.walk.specs.Walk.{is_weight}
-use Rattle.walk.specs.declared.M2N.{M2N}
+use Rattle.fit_state.specs.declared.M2N.{M2N}
 use Rattle.fit_refusals.specs.Known.{GridKnown, RunsKnown}
 use Rattle.fit_refusals.specs.Refusals.{all_weights, grid_rules, grid_refusal, runs_rules, runs_refusal}
 

@@ -2,7 +2,7 @@
 use Rattle.std.specs.Prelude.{◌≡◌, List, true, ℕ, ◌*◌, ◌≤◌, length, Float}
 use Rattle.fit_refusals.specs.Refusals.{all_weights, is_spacing, rows_of}
 use Rattle.walk.specs.Variants.{is_variant}
-use Rattle.walk.specs.declared.M2N.{M2N}
+use Rattle.fit_state.specs.declared.M2N.{M2N}
 
 pub record GridKnown (m : M2N) (epsilon : Float) (runs : ℕ) (weights : List Float) : Type 0 where
   pub enough_moments : 5 ≤ m.len

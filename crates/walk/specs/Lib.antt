@@ -1,7 +1,6 @@
 pub mod Parts
 pub mod Limit
 pub mod Reasons
-pub mod Squares
 pub mod Trail
 pub mod Variants
 pub mod Walk
