@@ -1,5 +1,10 @@
+pub mod Cuts
+pub mod Left
+pub mod Pieces
 pub mod Rounds
 pub mod Stays
 pub mod Sums
 pub mod Trails
+pub mod Visits
+pub mod Whole
 pub mod Within

@@ -22,7 +22,6 @@ use Rattle.walk.specs.declared.Fit.{Fit}
 use Rattle.walk.specs.declared.M2N.{M2N}
 use Rattle.walk.specs.declared.Seen.{Seen}
 use Rattle.walk.specs.declared.Turn.{Turn}
-use Rattle.walk.proofs.Trails.{left_of, goes_on}
 
 -- ---- the fit after several iterates
 abbrev error_at : ℕ → Five → Params → Float
@@ -123,35 +122,6 @@ leads_snoc m μ p (q ∷ t) μ' p' r h e s = (h.0, h.1, leads_snoc m q.mu_2 q.p_
 abbrev over : M2N → Fit → List Params → Fit
 over m f t = fit_over m.len (five_of m.moments) f t
 
-walked : (m : M2N) (f : Fit) (k : ℕ) (μ p : Float) (t : List Params) (μ' p' : Float) → Leads m μ p t μ' p' → k + length t ≤ m.max_iter → left_of m f k μ p ≡ left_of m (over m f t) (k + length t) μ' p'
-walked m f k μ p [] μ' p' h l = ap (λ x. left_of m f k x p) h.0 ∙ ap (λ x. left_of m f k μ' x) h.1 ∙ ap (λ n. left_of m f n μ' p') (nothing k)
-  where
-    nothing : (n : ℕ) → n ≡ n + 0
-    nothing n = omega arith
-walked m f k μ p (r ∷ t) μ' p' h l =
-    let g = fit_after m.len (five_of m.moments) f r in
-    goes_on m f g k μ p r (omega (arith, l)) h.0 refl h.1
-    ∙ walked m g (k + 1) r.mu_2 r.p_1 t μ' p' h.2 (omega (arith, l))
-    ∙ ap (λ n. left_of m (over m g t) n μ' p') (one_on k (length t))
-  where
-    one_on : (n l : ℕ) → n + 1 + l ≡ n + suc l
-    one_on n l = omega arith
-
--- n rounds
-rounds : (m : M2N) (f : Fit) (k : ℕ) (μ p : Float) (t : List Params) (n : ℕ) → Leads m μ p t μ p → over m f t ≡ f → k + n * length t ≤ m.max_iter → left_of m f k μ p ≡ left_of m f (k + n * length t) μ p
-rounds m f k μ p t zero h e l = ap (λ x. left_of m f x μ p) (nothing k (length t))
-  where
-    nothing : (j l : ℕ) → j ≡ j + zero * l
-    nothing j l = omega arith
-rounds m f k μ p t (suc n) h e l =
-    walked m f k μ p t μ p h (omega (arith, suc-mul n (length t), l))
-    ∙ ap (λ g. left_of m g (k + length t) μ p) e
-    ∙ rounds m f (k + length t) μ p t n h e (omega (arith, suc-mul n (length t), l))
-    ∙ ap (λ x. left_of m f x μ p) (on (suc-mul n (length t)))
-  where
-    on : suc n * length t ≡ n * length t + length t → k + length t + n * length t ≡ k + suc n * length t
-    on e = omega (arith, e)
-
 -- ---- what the loop knows: iterates lead from the pair looked out for to the present one, and the fit has them
 pub record Since (m : M2N) (seen : Seen) (f : Fit) (count : ℕ) (μ p : Float) : Type 0 where
   pub trail : List Params
@@ -172,30 +142,50 @@ since_on m seen f g count μ p r s e hg h = record {
   counted = omega (arith, s.counted, length-append s.trail (r ∷ []));
 }
 
--- ---- one turn of the count
-pub record Turns (m : M2N) (f : Fit) (count : ℕ) (μ p : Float) (r : Turn) : Type 0 where
-  pub within : r.count ≤ m.max_iter
-  pub the_same : left_of m f count μ p ≡ left_of m f r.count μ p
-  pub since : Since m r.seen f r.count μ p
+-- ---- what is left of a piece of at most `to` steps: one step on changes nothing of it
+module _ (m : M2N) {A : Type 0} (left : Fit → ℕ → Float → Float → A) (to : ℕ)
+    (goes_on : (f : Fit) (k : ℕ) (μ p : Float) (r : Params) → k < to → step_for m.variant m.moments μ p ≡ Admitted r → settled m.epsilon p r.p_1 ≡ false → left f k μ p ≡ left (fit_after m.len (five_of m.moments) f r) (k + 1) r.mu_2 r.p_1) where
+  walked : (f : Fit) (k : ℕ) (μ p : Float) (t : List Params) (μ' p' : Float) → Leads m μ p t μ' p' → k + length t ≤ to → left f k μ p ≡ left (over m f t) (k + length t) μ' p'
+  walked f k μ p [] μ' p' h l = ap (λ x. left f k x p) h.0 ∙ ap (λ x. left f k μ' x) h.1 ∙ ap (λ n. left f n μ' p') (omega arith)
+  walked f k μ p (r ∷ t) μ' p' h l =
+      let g = fit_after m.len (five_of m.moments) f r in
+      goes_on f k μ p r (omega (arith, l)) h.0 h.1
+      ∙ walked g (k + 1) r.mu_2 r.p_1 t μ' p' h.2 (omega (arith, l))
+      ∙ ap (λ n. left (over m g t) n μ' p') (omega arith)
 
-pub turns : (m : M2N) (f : Fit) (count : ℕ) (μ p : Float) (seen : Seen) (r : Turn) → count ≤ m.max_iter → seen.at < count → Since m seen f count μ p → Turned count m.max_iter μ p seen r → Turns m f count μ p r
-turns m f count μ p seen r l lt s (stays e) = subst (Turns m f count μ p) (sym e) (record { within = l; the_same = refl; since = s })
-turns m f count μ p seen r l lt s (looks e) = subst (Turns m f count μ p) (sym e) (record { within = l; the_same = refl; since = since_now m f count μ p })
-turns m f count μ p seen r l lt s (rounds_on n to hμ hp ht hl e) =
-    subst (Turns m f count μ p) (sym e)
-    (record { within = hl; the_same = rounds m f count μ p s.trail n back same_fit (omega (arith, far, hl)) ∙ ap (λ x. left_of m f x μ p) (sym far); since = since_now m f to μ p })
-  where
-    length_is : count - seen.at ≡ length s.trail
-    length_is = omega (arith, s.counted)
+  -- n rounds
+  rounds : (f : Fit) (k : ℕ) (μ p : Float) (t : List Params) (n : ℕ) → Leads m μ p t μ p → over m f t ≡ f → k + n * length t ≤ to → left f k μ p ≡ left f (k + n * length t) μ p
+  rounds f k μ p t zero h e l = ap (λ x. left f x μ p) (omega arith)
+  rounds f k μ p t (suc n) h e l =
+      walked f k μ p t μ p h (omega (arith, suc-mul n (length t), l))
+      ∙ ap (λ g. left g (k + length t) μ p) e
+      ∙ rounds f (k + length t) μ p t n h e (omega (arith, suc-mul n (length t), l))
+      ∙ ap (λ x. left f x μ p) (omega (arith, suc-mul n (length t)))
 
-    far : to ≡ count + n * length s.trail
-    far = ht ∙ ap (λ x. count + n * x) length_is
+  -- one turn of the count
+  pub record Turns (f : Fit) (count : ℕ) (μ p : Float) (r : Turn) : Type 0 where
+    pub within : r.count ≤ to
+    pub the_same : left f count μ p ≡ left f r.count μ p
+    pub since : Since m r.seen f r.count μ p
 
-    back : Leads m μ p s.trail μ p
-    back = subst (λ x. Leads m x p s.trail μ p) (sym hμ) (subst (λ x. Leads m seen.mu x s.trail μ p) (sym hp) s.leads)
+  pub turns : (f : Fit) (count : ℕ) (μ p : Float) (seen : Seen) (r : Turn) → count ≤ to → Since m seen f count μ p → Turned count to μ p seen r → Turns f count μ p r
+  turns f count μ p seen r l s (stays e) = subst (Turns f count μ p) (sym e) (record { within = l; the_same = refl; since = s })
+  turns f count μ p seen r l s (looks e) = subst (Turns f count μ p) (sym e) (record { within = l; the_same = refl; since = since_now m f count μ p })
+  turns f count μ p seen r l s (rounds_on n far hμ hp ht hl e) =
+      subst (Turns f count μ p) (sym e)
+      (record { within = hl; the_same = rounds f count μ p s.trail n back same_fit (omega (arith, is, hl)) ∙ ap (λ x. left f x μ p) (sym is); since = since_now m f far μ p })
+    where
+      length_is : count - seen.at ≡ length s.trail
+      length_is = omega (arith, s.counted)
 
-    same_fit : over m f s.trail ≡ f
-    same_fit = ap (λ g. over m g s.trail) s.kept ∙ round_again m.len (five_of m.moments) s.before s.trail ∙ sym s.kept
+      is : far ≡ count + n * length s.trail
+      is = ht ∙ ap (λ x. count + n * x) length_is
+
+      back : Leads m μ p s.trail μ p
+      back = subst (λ x. Leads m x p s.trail μ p) (sym hμ) (subst (λ x. Leads m seen.mu x s.trail μ p) (sym hp) s.leads)
+
+      same_fit : over m f s.trail ≡ f
+      same_fit = ap (λ g. over m g s.trail) s.kept ∙ round_again m.len (five_of m.moments) s.before s.trail ∙ sym s.kept
 
 -- ---- the code's parts
 pub one_float : (x y : Float) → T (fits binary64 x) → T (fits binary64 y) → to_bits binary64 x ≡ to_bits binary64 y → x ≡ y

@@ -1,7 +1,10 @@
 pub mod Parts
 pub mod Limit
+pub mod Machine
+pub mod Pieces
 pub mod Reasons
 pub mod Squares
 pub mod Trail
 pub mod Variants
+pub mod Visits
 pub mod Walk

@@ -1,5 +1,5 @@
 -- What the parts of the walk promise each other: the fit part of the state by itself. Definitions only.
-use Rattle.std.specs.Prelude.{Bool, true, false, cond, eqb, ◌≡◌, ℕ, ◌+◌, ◌*◌, ◌-◌, ◌≤◌, min, Float, Result, Ok}
+use Rattle.std.specs.Prelude.{Bool, true, false, ◌≡◌, ℕ, ◌+◌, ◌*◌, ◌-◌, ◌≤◌, min, Float, Result}
 use Rattle.std.specs.Float.Ieee.{lt}
 use Rattle.moments.specs.Lists.{listed}
 use Rattle.moments.specs.Mixture.{get_moments}
@@ -8,12 +8,11 @@ use Rattle.moments.specs.declared.Params.{Params}
 use Rattle.refusal.specs.Numbers.{unless_refused}
 use Rattle.refusal.specs.declared.Refusal.{Refusal}
 use Rattle.walk.specs.Variants.{variant_at}
-use Rattle.walk.specs.Walk.{Walked, shape_refusal, squares, walk_refusal, with_fit}
+use Rattle.walk.specs.Walk.{reason_at, shape_refusal, squares, with_fit}
 use Rattle.walk.specs.declared.M2N.{M2N}
 use Rattle.walk.specs.declared.Ended.{Ended}
 use Rattle.walk.specs.declared.Fit.{Fit}
 use Rattle.walk.specs.declared.Reason.{Reason}
-use Rattle.walk.specs.declared.Reason.TheVariants.{Spent}
 use Rattle.walk.specs.declared.Seen.{Seen}
 use Rattle.walk.specs.declared.Turn.{Turn}
 use Rattle.walk.specs.declared.Variant.{Variant}
@@ -35,20 +34,13 @@ fit_after len a f r = let n = get_moments r in let e = squares (listed a) (liste
 abbrev pub with_fit_of : M2N → Fit → M2N
 with_fit_of m f = with_fit m f.new_moments f.parameters f.error
 
--- the state's variant, unless its walk is refused for the state, or from the weight
+-- the state's variant, unless its walk is refused for the state
 abbrev pub shape_variant : M2N → Result Variant Refusal
 shape_variant m = unless_refused (shape_refusal m) (variant_at m.variant)
 
-abbrev pub walk_variant : M2N → Float → Result Variant Refusal
-walk_variant m p = unless_refused (walk_refusal m p) (variant_at m.variant)
-
--- how a walk ended that was stopped so: spent where the count is the limit
+-- how a walk ended that was stopped so
 abbrev pub ended_after : ℕ → ℕ → Reason → Ended
-ended_after count limit stopped = record { count = count; reason = cond (eqb count limit) Spent stopped }
-
--- the answer of a walk of a state that left a fit and ended so
-abbrev pub walked_to : M2N → Fit → Ended → Walked
-walked_to m f e = record { state = with_fit_of m f; outcome = Ok e }
+ended_after count limit stopped = record { count = count; reason = reason_at count limit stopped }
 
 -- one turn of the walk's count: as it was; or with another pair to look out for; or, where the pair is the one looked out for, with whole rounds counted
 pub data Turned (count limit : ℕ) (μ p : Float) (seen : Seen) (r : Turn) : Type 0 where

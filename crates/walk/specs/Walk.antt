@@ -1,6 +1,7 @@
 -- What a walk answers: refused, or its trail's length, the reason, and the best of what was met. Definitions only.
-use Rattle.std.specs.Prelude.{List, [], ◌∷◌, ◌++◌, Bool, true, false, ◌&&◌, not, cond, ℕ, zero, suc, min, ltb, eqb, length, get_or, Float, Ok, Err}
+use Rattle.std.specs.Prelude.{List, [], ◌∷◌, ◌++◌, Bool, true, false, ◌&&◌, not, cond, ℕ, zero, suc, min, ltb, eqb, length, get_or, Float, Option, Some, None, Ok, Err}
 use Rattle.std.specs.Float.{nan, binary64}
+use Rattle.std.specs.List.{last_or}
 use Rattle.std.specs.Float.Ieee.{add, sub, mul, lt, le}
 use Rattle.float.specs.Constants.{nought, one, minus_nought}
 use Rattle.moments.specs.Mixture.{get_moments}
@@ -13,7 +14,7 @@ use Rattle.refusal.specs.Rules.{Rule, ◌⇒◌, first_refusal}
 use Rattle.refusal.specs.declared.Refusal.TheVariants.{TooFewMoments, TooManyMoments, UnknownVariant, BadWeight}
 use Rattle.step.specs.declared.Step.{Step}
 use Rattle.step.specs.declared.Step.TheVariants.{Admitted, Inadmissible}
-use Rattle.walk.specs.Trail.{step_for, trail_from}
+use Rattle.walk.specs.Trail.{Arguments, trail, trail_from}
 use Rattle.walk.specs.Variants.{is_variant}
 use Rattle.walk.specs.declared.M2N.{M2N}
 use Rattle.walk.specs.declared.Reason.{Reason}
@@ -67,20 +68,29 @@ unfolding keep_of
 keep_all m [] = m
 keep_all m (r ∷ t) = keep_all (keep_of m r) t
 
--- the trail of a walk from a state
+-- what the trail of a walk from a state, a mean and a weight is made from
+abbrev pub arguments_of : M2N → Float → Float → Arguments
+arguments_of m μ p = record { variant = m.variant; moments = m.moments; mean = μ; weight = p; epsilon = m.epsilon; max_iter = m.max_iter }
+
 unfoldable pub trail_of : M2N → Float → Float → List Step
 unfolding trail_from
-trail_of m μ p = trail_from (step_for m.variant m.moments) m.epsilon m.max_iter μ p
+trail_of m μ p = trail (arguments_of m μ p)
 
--- what stopped the walk before its limit: its last entry is inadmissible, or it settled
+-- what stopped the walk before its limit, by the last entry of its trail: that is inadmissible, or it settled
+abbrev pub stopped_at : Option Step → Reason
+stopped_at (Some Inadmissible) = reason.Inadmissible
+stopped_at (Some (Admitted r)) = Settled
+stopped_at None = Spent
+
 abbrev pub stopped : List Step → Reason
-stopped [] = Settled
-stopped (Inadmissible ∷ t) = reason.Inadmissible
-stopped (Admitted r ∷ t) = stopped t
+stopped t = stopped_at (last_or None t)
 
--- spent whenever the count equals max_iter, otherwise what stopped it
+-- spent whenever the count equals the limit, otherwise what stopped it
+abbrev pub reason_at : ℕ → ℕ → Reason → Reason
+reason_at count limit stopped = cond (eqb count limit) Spent stopped
+
 abbrev pub reason_of : ℕ → List Step → Reason
-reason_of limit t = cond (eqb (length t) limit) Spent (stopped t)
+reason_of limit t = reason_at (length t) limit (stopped t)
 
 -- how many moments the variant's step reads
 abbrev pub needed_by : ℕ → ℕ

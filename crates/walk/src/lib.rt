@@ -2,9 +2,10 @@
 // step limit is reached. The best parameters met on the way are kept.
 #![tactic(auto)]
 
-ghost use Rattle.std.specs.Prelude.{◌≡◌, true, ◌≤◌, ◌<◌, min, Ok};
+ghost use Rattle.std.specs.Prelude.{◌≡◌, true, false, ◌≤◌, ◌<◌, min};
 ghost use Rattle.moments.specs.Lists.{five_of, listed};
-ghost use Rattle.walk.specs.Parts.{Turned, ended_after, fit_after, fit_part, shape_variant, walk_variant, walked_to, with_fit_of};
+ghost use Rattle.walk.specs.Machine.{advanced, at_end, begun, outcome_of, over};
+ghost use Rattle.walk.specs.Parts.{Turned, ended_after, fit_after, fit_part, shape_variant, with_fit_of};
 ghost use Rattle.walk.specs.Reasons.{number_of};
 ghost use Rattle.walk.specs.Squares.{squares_summed};
 ghost use Rattle.walk.specs.Trail.{step_for};
@@ -150,6 +151,17 @@ pub struct After<T> {
 
 pub type Walked = After<Ended>;
 
+// A walk under way: the state with the best of what was met, the pair of the next step, how many steps
+// were taken, and what stopped it.
+#[derive(Clone, Copy)]
+pub struct Walking {
+    pub state: M2N,
+    pub mu_2: f64,
+    pub p_1: f64,
+    pub count: usize,
+    pub stopped: Option<Reason>,
+}
+
 // The moments that a step reads.
 pub fn first_five(m: M2N) -> Five
     ensures { result ≡ five_of m.moments }
@@ -238,14 +250,14 @@ fn check_shape(m: M2N) -> Result<Variant, Refusal>
 
 // And then of the weight.
 #[tactic(auto, unfolding(crate::specs::Walk::shape_refusal, crate::specs::Walk::walk_refusal))]
-fn check(m: M2N, p_1: f64) -> Result<Variant, Refusal>
-    ensures { result ≡ walk_variant m p_1 }
+fn check(m: M2N, p_1: f64) -> Result<(), Refusal>
+    ensures { result ≡ walk_refusal m p_1 }
 {
-    let variant = check_shape(m)?;
+    check_shape(m)?;
     if !is_weight(p_1) {
         return Err(Refusal::BadWeight);
     }
-    Ok(variant)
+    Ok(())
 }
 
 // It is spent whenever the count equals the limit; otherwise the reason is what stopped it.
@@ -292,51 +304,120 @@ fn count_rounds(count: usize, max_iter: usize, mu: f64, p: f64, seen: Seen) -> T
     Turn { count, seen }
 }
 
-// The walk of a state that is not refused. `max_iter` is the budget. A turn may count whole rounds, so
-// the loop is no `for` over its turns.
-fn walk(m: M2N, variant: Variant, mu_2: f64, p_1: f64) -> (Fit, Ended)
-    requires { (variant_number variant ≡ m.variant) × (Ok tt ≡ walk_refusal m p_1) }
-    ensures { walked_to m result.0 result.1 ≡ walk_of m mu_2 p_1 }
+// A walk before its first step, if it is not refused.
+#[tactic(auto, unfolding(crate::specs::Machine::begun))]
+pub fn begin(m: M2N, mu_2: f64, p_1: f64) -> Result<Walking, Refusal>
+    ensures { result ≡ begun m mu_2 p_1 }
 {
+    check(m, p_1)?;
+    Ok(Walking {
+        state: m,
+        mu_2,
+        p_1,
+        count: 0,
+        stopped: None,
+    })
+}
+
+fn at_end(w: Walking) -> bool
+    ensures { result ≡ at_end w }
+{
+    w.stopped.is_some() || w.state.max_iter <= w.count
+}
+
+// Whether a walk takes no more steps. So it is with a state that no walk begins with, since a step could
+// not be taken: a `Walking` may be made by hand.
+#[tactic(auto, unfolding(crate::specs::Machine::over))]
+pub fn is_over(w: Walking) -> bool
+    ensures { result ≡ over w }
+{
+    check_shape(w.state).is_err() || at_end(w)
+}
+
+// Steps of a walk that is not over. A turn may count whole rounds, so the loop is no `for` over its
+// turns; the count is the piece's own, so that a piece finds rounds as a whole walk does.
+fn go_on(w: Walking, variant: Variant, n: usize) -> Walking
+    requires its_variant { variant_number variant ≡ w.state.variant }
+    requires going { over w ≡ false }
+    ensures { result ≡ advanced n w }
+{
+    let m = w.state;
     let a = first_five(m);
-    let max_iter = m.max_iter;
+    let to = n.min(m.max_iter - w.count);
     let mut f = Fit::from(m);
-    let mut mu = mu_2;
-    let mut p = p_1;
+    let mut mu = w.mu_2;
+    let mut p = w.p_1;
     let mut count = 0;
     let mut seen = Seen { mu, p, at: 0 };
-    while count < max_iter {
+    while count < to {
         let s = variant.step(a, mu, p);
         count += 1;
         let Step::Admitted(r) = s else {
-            return (f, ended_after(count, max_iter, Reason::Inadmissible));
+            return Walking {
+                state: with_fit(m, f),
+                mu_2: mu,
+                p_1: p,
+                count: w.count + count,
+                stopped: Some(Reason::Inadmissible),
+            };
         };
         f = fit_after(m.len, a, f, r);
-        if number::abs(p - r.p_1) < m.epsilon {
-            return (f, ended_after(count, max_iter, Reason::Settled));
-        }
+        let settled = number::abs(p - r.p_1) < m.epsilon;
         mu = r.mu_2;
         p = r.p_1;
-        let t = count_rounds(count, max_iter, mu, p, seen);
+        if settled {
+            return Walking {
+                state: with_fit(m, f),
+                mu_2: mu,
+                p_1: p,
+                count: w.count + count,
+                stopped: Some(Reason::Settled),
+            };
+        }
+        let t = count_rounds(count, to, mu, p, seen);
         count = t.count;
         seen = t.seen;
     }
-    (f, ended_after(count, max_iter, Reason::Spent))
+    Walking {
+        state: with_fit(m, f),
+        mu_2: mu,
+        p_1: p,
+        count: w.count + count,
+        stopped: None,
+    }
+}
+
+// At most n steps on, up to the end of the walk.
+#[tactic(auto, using(crate::proofs::Trails::its_variant, crate::proofs::Left::going, crate::proofs::Left::ended, crate::proofs::Left::misshapen))]
+pub fn advance(w: Walking, n: usize) -> Walking
+    ensures { result ≡ advanced n w }
+{
+    match check_shape(w.state) {
+        Ok(variant) if !at_end(w) => go_on(w, variant, n),
+        _ => w,
+    }
+}
+
+// What a walk that is over answers; of one that is not, as if its limit were reached.
+#[tactic(auto, unfolding(crate::specs::Machine::outcome_of))]
+pub fn outcome_of(w: Walking) -> Walked
+    ensures { result ≡ outcome_of w }
+{
+    let m = w.state;
+    let stopped = w.stopped.unwrap_or(Reason::Spent);
+    Walked {
+        state: m,
+        outcome: check_shape(m).map(|_| ended_after(w.count, m.max_iter, stopped)),
+    }
 }
 
 // Iterates the variant's step from a mean and a weight.
-#[tactic(auto, using(crate::proofs::Trails::is_allowed, crate::proofs::Trails::refused))]
+#[tactic(auto, using(crate::proofs::Whole::whole))]
 pub fn iterate_from(m: M2N, mu_2: f64, p_1: f64) -> Walked
     ensures { result ≡ walk_of m mu_2 p_1 }
 {
-    match check(m, p_1) {
-        Ok(variant) => {
-            let (fit, ended) = walk(m, variant, mu_2, p_1);
-            Walked {
-                state: with_fit(m, fit),
-                outcome: Ok(ended),
-            }
-        }
+    match begin(m, mu_2, p_1) {
+        Ok(w) => outcome_of(advance(w, m.max_iter)),
         Err(refusal) => Walked {
             state: m,
             outcome: Err(refusal),

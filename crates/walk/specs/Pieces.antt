@@ -1,0 +1,54 @@
+-- What holds of a walk in pieces, and of a trail in pieces. Statements, and how a trail goes on; `proofs/Pieces.antt` and `proofs/Whole.antt` prove them.
+use Rattle.std.specs.Prelude.{◌≡◌, List, [], ◌∷◌, ◌++◌, true, cond, ℕ, ◌+◌, ◌≤◌, Float, Option, Some, None, Result, Ok, Err}
+use Rattle.moments.specs.declared.Five.{Five}
+use Rattle.moments.specs.declared.Params.{Params}
+use Rattle.refusal.specs.declared.Refusal.{Refusal}
+use Rattle.step.specs.declared.Step.{Step}
+use Rattle.step.specs.declared.Step.TheVariants.{Admitted, Inadmissible}
+use Rattle.walk.specs.Machine.{begun, over, advanced, outcome_of}
+use Rattle.walk.specs.Trail.{Arguments, settled, trail}
+use Rattle.walk.specs.Walk.{Walked, trail_of, walk_of, with_fit}
+use Rattle.walk.specs.declared.M2N.{M2N}
+use Rattle.walk.specs.declared.Walking.{Walking}
+
+-- going on by a and then by b is going on by a + b
+abbrev pub PiecesAdd : Type 0
+PiecesAdd = (a b : ℕ) (w : Walking) → advanced (a + b) w ≡ advanced b (advanced a w)
+
+-- a walk that is over stays as it is
+abbrev pub OverStays : Type 0
+OverStays = (n : ℕ) (w : Walking) → over w ≡ true → advanced n w ≡ w
+
+-- the count never passes the limit
+abbrev pub CountWithin : Type 0
+CountWithin = (n : ℕ) (w : Walking) → w.count ≤ w.state.max_iter → (advanced n w).count ≤ w.state.max_iter
+
+-- begun, and gone on with for its limit
+abbrev pub in_pieces : M2N → Result Walking Refusal → Walked
+in_pieces m (Ok w) = outcome_of (advanced m.max_iter w)
+in_pieces m (Err e) = record { state = m; outcome = Err e }
+
+-- the walk in one go is the walk begun and gone on with for its limit
+abbrev pub WholeInPieces : Type 0
+WholeInPieces = (m : M2N) (μ p : Float) → walk_of m μ p ≡ in_pieces m (begun m μ p)
+
+-- the kept parameters, moments and error of a state never steer its walk
+abbrev pub FitNeverSteers : Type 0
+FitNeverSteers = (m : M2N) (n : Five) (r : Params) (e μ p : Float)
+    → (trail_of (with_fit m n r e) μ p ≡ trail_of m μ p) × ((walk_of (with_fit m n r e) μ p).outcome ≡ (walk_of m μ p).outcome)
+
+-- ---- a trail in pieces
+-- where a trail stands after its entries, if it goes on: with the last one's mu_2 and p_1 as its pair
+abbrev pub stands_after : Arguments → List Step → Option Arguments
+stands_after a [] = Some a
+stands_after a (Inadmissible ∷ t) = None
+stands_after a (Admitted r ∷ t) = cond (settled a.epsilon a.weight r.p_1) None (stands_after (record a { mean = r.mu_2; weight = r.p_1 }) t)
+
+-- n entries more, from where it stands
+abbrev pub goes_on : ℕ → Option Arguments → List Step
+goes_on n (Some a) = trail (record a { max_iter = n })
+goes_on n None = []
+
+-- the trail of n + k steps is that of n, and then, unless that has ended, that of k from where it stands
+abbrev pub TrailsAdd : Type 0
+TrailsAdd = (n k : ℕ) (a : Arguments) → let t = trail (record a { max_iter = n }) in trail (record a { max_iter = n + k }) ≡ t ++ goes_on k (stands_after a t)
