@@ -10,9 +10,10 @@ use Rattle.refusal.specs.Numbers.{Checked}
 use Rattle.std.specs.Prelude.{None, Ok, Err}
 use Rattle.step.specs.declared.Step.{Step}
 use Rattle.step.specs.declared.Step.TheVariants.{Admitted, Inadmissible}
+use Rattle.walk.specs.Parts.{with_fit_of}
 use Rattle.walk.specs.Pieces.{FitNeverSteers, stands_after, goes_on, TrailsAdd}
 use Rattle.walk.specs.Trail.{Arguments, settled, step_for, trail, trail_from}
-use Rattle.walk.specs.Walk.{keep_all, trail_of, walk_refusal, answered, walk_of, with_fit}
+use Rattle.walk.specs.Walk.{keep_all, trail_of, walk_refusal, answered, walk_of}
 
 pub trails_add : TrailsAdd
 unfolding trail_from
@@ -41,8 +42,8 @@ trails_add (suc n) k a =
 
 pub fit_never_steers : FitNeverSteers
 unfolding trail_of walk_of walk_refusal
-fit_never_steers m n r e μ p = (refl, go (walk_refusal m p))
+fit_never_steers m f μ p = (refl, go (walk_refusal m p))
   where
-    go : (c : Checked) → (answered c (with_fit m n r e) (keep_all (with_fit m n r e) (trail_of m μ p)) (trail_of m μ p)).outcome ≡ (answered c m (keep_all m (trail_of m μ p)) (trail_of m μ p)).outcome
+    go : (c : Checked) → (answered c (with_fit_of m f) (keep_all (with_fit_of m f) (trail_of m μ p)) (trail_of m μ p)).outcome ≡ (answered c m (keep_all m (trail_of m μ p)) (trail_of m μ p)).outcome
     go (Ok u) = refl
     go (Err e) = refl

@@ -1,7 +1,7 @@
 -- What is left of a walk k steps into a piece of at most n, at a fit and a pair, and how one step changes it: by the step's answer and the test for settling. Assumes nothing.
 use mathlib.Core.Path.{◌≡◌, sym, ap, ◌∙◌}
 use mathlib.Core.Bool.{Bool, true, false, cond}
-use Prim.Native.Nat.{ℕ, ◌+◌, ◌-◌, ◌<◌, min}
+use Prim.Native.Nat.{ℕ, ◌+◌, ◌-◌, ◌≤◌, ◌<◌, min}
 use native.Mathlib.Omega.{arith}
 use borrow.Author.Tests.{leb-true, leb-false, lt-leb, le-leb}
 use lib.Dec.{leb}
@@ -24,7 +24,7 @@ use Rattle.walk.specs.declared.Reason.TheVariants as reason
 use Rattle.walk.specs.declared.Reason.TheVariants.{Settled}
 use Rattle.walk.specs.declared.Variant.{Variant}
 use Rattle.walk.specs.declared.Walking.{Walking}
-use Rattle.walk.proofs.Pieces.{Goes, none_on, one_on, over_stays, either}
+use Rattle.walk.proofs.Pieces.{none_on, one_on, over_is, over_stays, same_shape, either}
 use Rattle.walk.proofs.Trails.{keeps, has_shape}
 
 -- the walk w, k steps on
@@ -34,28 +34,23 @@ steps_on w f k μ p o = record { state = with_fit_of w.state f; mu_2 = μ; p_1 =
 abbrev pub left_of : Walking → ℕ → Fit → ℕ → Float → Float → Walking
 left_of w n f k μ p = advanced (n - k) (steps_on w f k μ p None)
 
-over_if : (w : Walking) (f : Fit) (k : ℕ) (μ p : Float) (b : Bool) → Goes w → leb w.state.max_iter (w.count + k) ≡ b → over (steps_on w f k μ p None) ≡ b
-unfolding over shape_refusal
-over_if w f k μ p b g h = rw (g.shape, h)
-
-over_stopped : (w : Walking) (f : Fit) (k : ℕ) (μ p : Float) (r : Reason) → Goes w → over (steps_on w f k μ p (Some r)) ≡ true
-unfolding over shape_refusal
-over_stopped w f k μ p r g = rw g.shape
-
-pub begins : (w : Walking) (n : ℕ) → Goes w → advanced n w ≡ left_of w n (fit_part w.state) 0 w.mu_2 w.p_1
-begins w n g = ap (λ k. advanced k w) (omega arith) ∙ ap (advanced (n - 0)) (λ i. record w { count = same i; stopped = g.unstopped i })
+pub begins : (w : Walking) (n : ℕ) → w.stopped ≡ None → advanced n w ≡ left_of w n (fit_part w.state) 0 w.mu_2 w.p_1
+begins w n u = ap (λ k. advanced k w) (omega arith) ∙ ap (advanced (n - 0)) (λ i. record w { count = same i; stopped = u i })
   where
     same : w.count ≡ w.count + 0
     same = omega arith
 
--- ---- a piece of n steps, or of as many as the limit leaves
-module _ (w : Walking) (n to : ℕ) (g : Goes w) (is : to ≡ min n (w.state.max_iter - w.count)) where
+-- ---- a piece of n steps, or of as many as the limit leaves, of a state that is not refused
+module _ (w : Walking) (n to : ℕ) (shape : shape_refusal w.state ≡ Ok tt) (room : w.count ≤ w.state.max_iter) (is : to ≡ min n (w.state.max_iter - w.count)) where
+  over_by : (f : Fit) (k : ℕ) (μ p : Float) (b : Bool) → leb w.state.max_iter (w.count + k) ≡ b → over (steps_on w f k μ p None) ≡ b
+  over_by f k μ p b h = over_is (steps_on w f k μ p None) (same_shape w.state f shape) ∙ h
+
   one : (f : Fit) (k : ℕ) (μ p : Float) (s : Step) → k < to → step_for w.state.variant w.state.moments μ p ≡ s → left_of w n f k μ p ≡ advanced (n - (k + 1)) (after (steps_on w f k μ p None) s)
   unfolding step_of
   one f k μ p s l e =
       let v = steps_on w f k μ p None in
       ap (λ j. advanced j v) (omega (arith, is, l))
-      ∙ one_on (n - (k + 1)) v (over_if w f k μ p false g (lt-leb _ _ (omega (arith, is, l))))
+      ∙ one_on (n - (k + 1)) v (over_by f k μ p false (lt-leb _ _ (omega (arith, is, l))))
       ∙ ap (λ x. advanced (n - (k + 1)) (after v x)) e
 
   counted : (f : Fit) (k : ℕ) (μ p : Float) (o : Option Reason) → record (steps_on w f k μ p o) { count = w.count + k + 1 } ≡ steps_on w f (k + 1) μ p o
@@ -71,7 +66,7 @@ module _ (w : Walking) (n to : ℕ) (g : Goes w) (is : to ≡ min n (w.state.max
 
   -- ---- what the code returns
   stops : (f : Fit) (k : ℕ) (μ p : Float) (r : Reason) → advanced (n - k) (steps_on w f k μ p (Some r)) ≡ steps_on w f k μ p (Some r)
-  stops f k μ p r = over_stays (n - k) (steps_on w f k μ p (Some r)) (over_stopped w f k μ p r g)
+  stops f k μ p r = let v = steps_on w f k μ p (Some r) in over_stays (n - k) v (over_is v (same_shape w.state f shape))
 
   pub turned_away : (f : Fit) (k : ℕ) (μ p : Float) → k < to → step_for w.state.variant w.state.moments μ p ≡ Inadmissible → left_of w n f k μ p ≡ steps_on w f (k + 1) μ p (Some reason.Inadmissible)
   turned_away f k μ p l e = one f k μ p Inadmissible l e ∙ ap (advanced (n - (k + 1))) (counted f k μ p (Some reason.Inadmissible)) ∙ stops f (k + 1) μ p reason.Inadmissible
@@ -87,16 +82,14 @@ module _ (w : Walking) (n to : ℕ) (g : Goes w) (is : to ≡ min n (w.state.max
       let v = steps_on w f to μ p None in
       either (leb n to)
       (λ t. let e : n - to ≡ 0 = omega (arith, leb-true n to t) in rw (e, none_on v))
-      (λ t. over_stays (n - to) v (over_if w f to μ p true g (le-leb _ _ (omega (arith, leb-false n to t, is, g.below)))))
+      (λ t. over_stays (n - to) v (over_by f to μ p true (le-leb _ _ (omega (arith, leb-false n to t, is, room)))))
 
 -- ---- the parts of the test for being over
 pub going : (w : Walking) (v : Variant) → Ok v ≡ shape_variant w.state → at_end w ≡ false → over w ≡ false
-unfolding over
-going w v h e = rw (sym (has_shape w.state v h), e)
+going w v h e = over_is w (sym (has_shape w.state v h)) ∙ e
 
 pub ended : (w : Walking) (n : ℕ) (v : Variant) → Ok v ≡ shape_variant w.state → at_end w ≡ true → w ≡ advanced n w
-unfolding over
-ended w n v h e = sym (over_stays n w (rw (sym (has_shape w.state v h), e)))
+ended w n v h e = sym (over_stays n w (over_is w (sym (has_shape w.state v h)) ∙ e))
 
 pub misshapen : (w : Walking) (n : ℕ) (e : Refusal) → Err e ≡ shape_variant w.state → w ≡ advanced n w
 unfolding over

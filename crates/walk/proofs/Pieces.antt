@@ -14,6 +14,8 @@ use Rattle.walk.specs.Parts.{fit_part, with_fit_of}
 use Rattle.walk.specs.Pieces.{PiecesAdd, OverStays, CountWithin}
 use Rattle.walk.specs.Trail.{step_for}
 use Rattle.walk.specs.Walk.{keep_of, shape_refusal}
+use Rattle.walk.specs.declared.Fit.{Fit}
+use Rattle.walk.specs.declared.M2N.{M2N}
 use Rattle.walk.specs.declared.Reason.{Reason}
 use Rattle.walk.specs.declared.Walking.{Walking}
 use Rattle.walk.proofs.Stays.{keeps_apart}
@@ -42,6 +44,15 @@ goes w h =
     none : (o : Option Reason) → is_some o ≡ false → o ≡ None
     none None h = refl
     none (Some r) h = cc
+
+-- of a state that is not refused
+pub over_is : (w : Walking) → shape_refusal w.state ≡ Ok tt → over w ≡ at_end w
+unfolding over
+over_is w h = rw h
+
+pub same_shape : (m : M2N) (f : Fit) → shape_refusal m ≡ Ok tt → shape_refusal (with_fit_of m f) ≡ Ok tt
+unfolding shape_refusal
+same_shape m f h = h
 
 -- ---- a step
 after_count : (w : Walking) (s : Step) → (after w s).count ≡ w.count + 1

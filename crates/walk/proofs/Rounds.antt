@@ -1,32 +1,30 @@
 -- A walk that comes back to a pair goes round, and a round walked once changes nothing more: the best of it is kept already. Assumes nothing.
-use mathlib.Core.Path.{◌≡◌, refl, sym, ap, subst, ◌∙◌}
-use mathlib.Core.List.{List, [], ◌∷◌, ◌++◌}
-use mathlib.Core.Bool.{Bool, true, false, not}
-use Prim.Native.Nat.{ℕ, zero, suc, ◌+◌, ◌*◌, ◌-◌, ◌/◌, ◌≤◌, ◌<◌, min}
+use mathlib.Core.Path.{◌≡◌, refl, sym, ap, ap₂, subst, ◌∙◌}
+use mathlib.Core.List.{List, [], ◌∷◌, ◌++◌, map}
+use mathlib.Core.Bool.{true, false, not}
+use Prim.Native.Nat.{ℕ, zero, suc, ◌+◌, ◌*◌, ◌-◌, ◌/◌, ◌≤◌, ◌<◌}
 use native.Mathlib.Nat.{suc-mul, div-mul-le_self}
 use native.Mathlib.Omega.{arith}
 use lib.ListN.{length, length-append}
 use lib.Dec.{T}
-use lib.Ieee.{Float, nan, inf, fin, lt, eq, is_nan, fits, binary64, to_bits, of_bits}
+use lib.Ieee.{Float, nan, inf, fin, eq, is_nan, fits, binary64, to_bits, of_bits}
 use lib.Ieee.Bits.{of_bits-to_bits}
-use Rattle.float.proofs.Order.{lt_irrefl, lt_chain}
-use Rattle.moments.specs.Lists.{five_of, listed}
+use Rattle.std.specs.List.{fold}
+use Rattle.moments.specs.Lists.{five_of}
 use Rattle.moments.specs.Mixture.{get_moments}
 use Rattle.moments.specs.declared.Five.{Five}
 use Rattle.moments.specs.declared.Params.{Params}
 use Rattle.step.specs.declared.Step.TheVariants.{Admitted}
-use Rattle.walk.specs.Parts.{chosen, fit_after, Turned, stays, looks, rounds_on}
+use Rattle.walk.specs.Parts.{best_of_fit, fit_after, fit_with, visit_at, Turned, stays, looks, rounds_on}
 use Rattle.walk.specs.Trail.{settled, step_for}
-use Rattle.walk.specs.Walk.{squares}
+use Rattle.walk.specs.Walk.{smaller}
 use Rattle.walk.specs.declared.Fit.{Fit}
 use Rattle.walk.specs.declared.M2N.{M2N}
 use Rattle.walk.specs.declared.Seen.{Seen}
 use Rattle.walk.specs.declared.Turn.{Turn}
+use Rattle.walk.proofs.Visits.{smallest_again}
 
 -- ---- the fit after several iterates
-abbrev error_at : ℕ → Five → Params → Float
-error_at len a r = squares (listed a) (listed (get_moments r)) (min len 5)
-
 abbrev fit_over : ℕ → Five → Fit → List Params → Fit
 fit_over len a f [] = f
 fit_over len a f (r ∷ t) = fit_over len a (fit_after len a f r) t
@@ -35,79 +33,28 @@ over_snoc : (len : ℕ) (a : Five) (f : Fit) (t : List Params) (r : Params) → 
 over_snoc len a f [] r = refl
 over_snoc len a f (q ∷ t) r = over_snoc len a (fit_after len a f q) t r
 
--- ---- nothing in a list of iterates is below the error kept over it
-abbrev refutes : (b : Bool) → (b ≡ true → ⊥) → b ≡ false
-refutes true h = absurd (h refl)
-refutes false h = refl
-
-abbrev differ : {A : Type 0} (b : Bool) → b ≡ true → b ≡ false → A
-differ true h k = absurd (subst T k tt)
-differ false h k = absurd (subst T (sym h) tt)
-
--- what is not below the error is not below it after another iterate
-still : (len : ℕ) (a : Five) (f : Fit) (r : Params) (x : Float) → lt x f.error ≡ false → lt x (fit_after len a f r).error ≡ false
-unfolding fit_after
-still len a f r x h = go (lt (error_at len a r) f.error) refl
-  where
-    go : (b : Bool) → lt (error_at len a r) f.error ≡ b → lt x (chosen b f r (get_moments r) (error_at len a r)).error ≡ false
-    go true e = refutes (lt x (error_at len a r)) (λ g. differ (lt x f.error) (lt_chain x (error_at len a r) f.error g e) h)
-    go false e = h
-
--- nor is the iterate's own
-own : (len : ℕ) (a : Five) (f : Fit) (r : Params) → lt (error_at len a r) (fit_after len a f r).error ≡ false
-unfolding fit_after
-own len a f r = go (lt (error_at len a r) f.error) refl
-  where
-    go : (b : Bool) → lt (error_at len a r) f.error ≡ b → lt (error_at len a r) (chosen b f r (get_moments r) (error_at len a r)).error ≡ false
-    go true e = refutes (lt (error_at len a r) (error_at len a r)) (lt_irrefl (error_at len a r))
-    go false e = e
-
-still_over : (len : ℕ) (a : Five) (f : Fit) (t : List Params) (x : Float) → lt x f.error ≡ false → lt x (fit_over len a f t).error ≡ false
-still_over len a f [] x h = h
-still_over len a f (r ∷ t) x h = still_over len a (fit_after len a f r) t x (still len a f r x h)
-
--- none of the iterates is below e
-abbrev NoneBelow : ℕ → Five → Float → List Params → Type 0
-NoneBelow len a e [] = Unit {0}
-NoneBelow len a e (r ∷ t) = (lt (error_at len a r) e ≡ false) × NoneBelow len a e t
-
-none_below : (len : ℕ) (a : Five) (f : Fit) (t : List Params) → NoneBelow len a (fit_over len a f t).error t
-none_below len a f [] = tt
-none_below len a f (r ∷ t) = (still_over len a (fit_after len a f r) t (error_at len a r) (own len a f r), none_below len a (fit_after len a f r) t)
-
--- ---- so the same iterates again change nothing
+-- it has the moments of the last, and as its best the smallest
 abbrev last_moments : Five → List Params → Five
 last_moments n [] = n
 last_moments n (r ∷ t) = last_moments (get_moments r) t
 
-abbrev with_moments : Fit → Five → Fit
-with_moments f n = record { new_moments = n; parameters = f.parameters; error = f.error }
-
-keeps_over : (len : ℕ) (a : Five) (f : Fit) (t : List Params) → NoneBelow len a f.error t → fit_over len a f t ≡ with_moments f (last_moments f.new_moments t)
+over_is : (len : ℕ) (a : Five) (f : Fit) (t : List Params) → fit_over len a f t ≡ fit_with (last_moments f.new_moments t) (fold smaller (best_of_fit f) (map (visit_at len a) t))
 unfolding fit_after
-keeps_over len a f [] h = refl
-keeps_over len a f (r ∷ t) h = ap (λ g. fit_over len a g t) (one_more h.0) ∙ keeps_over len a (with_moments f (get_moments r)) t h.1
-  where
-    one_more : lt (error_at len a r) f.error ≡ false → fit_after len a f r ≡ with_moments f (get_moments r)
-    one_more e = ap (λ b. chosen b f r (get_moments r) (error_at len a r)) e
-
-moments_over : (len : ℕ) (a : Five) (f : Fit) (t : List Params) → (fit_over len a f t).new_moments ≡ last_moments f.new_moments t
-unfolding fit_after
-moments_over len a f [] = refl
-moments_over len a f (r ∷ t) = moments_over len a (fit_after len a f r) t ∙ ap (λ n. last_moments n t) (one_more (lt (error_at len a r) f.error) refl)
-  where
-    one_more : (b : Bool) → lt (error_at len a r) f.error ≡ b → (fit_after len a f r).new_moments ≡ get_moments r
-    one_more true e = ap (λ c. (chosen c f r (get_moments r) (error_at len a r)).new_moments) e
-    one_more false e = ap (λ c. (chosen c f r (get_moments r) (error_at len a r)).new_moments) e
+over_is len a f [] = refl
+over_is len a f (r ∷ t) = over_is len a (fit_after len a f r) t
 
 last_again : (n : Five) (t : List Params) → last_moments (last_moments n t) t ≡ last_moments n t
 last_again n [] = refl
 last_again n (r ∷ t) = refl
 
-pub round_again : (len : ℕ) (a : Five) (f : Fit) (t : List Params) → fit_over len a (fit_over len a f t) t ≡ fit_over len a f t
+-- so the same iterates again change nothing
+round_again : (len : ℕ) (a : Five) (f : Fit) (t : List Params) → fit_over len a (fit_over len a f t) t ≡ fit_over len a f t
 round_again len a f t =
-    let g = fit_over len a f t in
-    keeps_over len a g t (none_below len a f t) ∙ ap (with_moments g) (ap (λ n. last_moments n t) (moments_over len a f t) ∙ last_again f.new_moments t ∙ sym (moments_over len a f t))
+    let l = map (visit_at len a) t in
+    over_is len a (fit_over len a f t) t
+    ∙ ap (λ g. fit_with (last_moments g.new_moments t) (fold smaller (best_of_fit g) l)) (over_is len a f t)
+    ∙ ap₂ fit_with (last_again f.new_moments t) (smallest_again (best_of_fit f) l)
+    ∙ sym (over_is len a f t)
 
 -- ---- steps that lead from a pair to another: admitted, and none settled
 abbrev Leads : M2N → Float → Float → List Params → Float → Float → Type 0
@@ -196,10 +143,10 @@ whole_rounds count limit round h = omega (arith, h, div-mul-le_self (limit - cou
 
 pub no_nan : (x y : Float) → eq x y ≡ true → T (not (is_nan x)) × T (not (is_nan y))
 unfolding eq is_nan
-no_nan nan y h = differ false h refl
-no_nan (inf s) nan h = differ false h refl
+no_nan nan y h = cc
+no_nan (inf s) nan h = cc
 no_nan (inf s) (inf t) h = (tt, tt)
 no_nan (inf s) (fin t n d) h = (tt, tt)
-no_nan (fin s m e) nan h = differ false h refl
+no_nan (fin s m e) nan h = cc
 no_nan (fin s m e) (inf t) h = (tt, tt)
 no_nan (fin s m e) (fin t n d) h = (tt, tt)

@@ -6,9 +6,6 @@ use Prim.Native.Nat.{ℕ, zero, suc}
 use lib.Dec.{eqb}
 use lib.Ieee.{Float, lt}
 use Rattle.float.specs.Constants.{nought}
-use Rattle.moments.specs.Mixture.{get_moments}
-use Rattle.moments.specs.declared.Five.{Five}
-use Rattle.moments.specs.declared.Params.{Params}
 use Rattle.refusal.specs.Numbers.{Checked}
 use Rattle.std.specs.Prelude.{Ok, Err}
 use Rattle.step.proofs.StepRuns.{negative_4, negative_5}
@@ -16,21 +13,17 @@ use Rattle.step.specs.Steps.{sigma2_squared, step_4, step_5, first_four, first_f
 use Rattle.step.specs.declared.Step.{Step}
 use Rattle.step.specs.declared.Step.TheVariants.{Admitted, Inadmissible}
 use Rattle.walk.specs.Trail.{step_for, trail_from}
-use Rattle.walk.specs.Walk.{error_of, better, keep_of, keep_all, trail_of, walk_refusal, answered, walk_of}
+use Rattle.walk.specs.Walk.{keep_of, keep_all, trail_of, walk_refusal, answered, walk_of}
 use Rattle.walk.specs.Parts.{fit_part, with_fit_of}
 use Rattle.walk.specs.declared.Fit.{Fit}
 use Rattle.walk.specs.declared.M2N.{M2N}
 use Rattle.walk.proofs.Trails.{out}
 
 -- ---- all but the fit
-still_apart : (b : Bool) (m : M2N) (r : Params) (n : Five) (e : Float) (f : Fit) → with_fit_of (better b m r n e) f ≡ with_fit_of m f
-still_apart true m r n e f = refl
-still_apart false m r n e f = refl
-
 pub keeps_apart : (m : M2N) (s : Step) (f : Fit) → with_fit_of (keep_of m s) f ≡ with_fit_of m f
 unfolding keep_of
 keeps_apart m Inadmissible f = refl
-keeps_apart m (Admitted r) f = still_apart (lt (error_of m (get_moments r)) m.error) m r (get_moments r) (error_of m (get_moments r)) f
+keeps_apart m (Admitted r) f = refl
 
 pub only_fit : (m : M2N) (t : List Step) → keep_all m t ≡ with_fit_of m (fit_part (keep_all m t))
 unfolding keep_all

@@ -2,7 +2,7 @@
 use mathlib.Core.Path.{◌≡◌, refl, sym, ap, ◌∙◌}
 use mathlib.Core.List.{List, [], ◌∷◌}
 use mathlib.Core.Bool.{Bool, true, false, not, ◌||◌, cond}
-use Prim.Native.Nat.{ℕ, suc, ◌≤◌, min}
+use Prim.Native.Nat.{ℕ, suc, ◌≤◌}
 use lib.Dec.{eqb}
 use lib.Ieee.{Float, binary64, sub, lt}
 use Rattle.float.specs.Leaves.{abs_of}
@@ -20,25 +20,19 @@ use Rattle.step.specs.Steps.{sigma2_squared}
 use Rattle.step.specs.declared.Step.{Step}
 use Rattle.step.specs.declared.Step.TheVariants.{Admitted, Inadmissible}
 use Rattle.walk.proofs.Sums.{error_is}
-use Rattle.walk.specs.Parts.{chosen, fit_after, shape_variant, with_fit_of}
+use Rattle.walk.specs.Parts.{fit_after, shape_variant, with_fit_of}
 use Rattle.walk.specs.Trail.{settled, step_for, trail_from}
 use Rattle.walk.specs.Variants.{is_variant, variant_at, variant_number}
-use Rattle.walk.specs.Walk.{needed_by, squares, better, keep_of, walk_refusal, walk_rules, shape_refusal, shape_rules}
+use Rattle.walk.specs.Walk.{needed_by, keep_of, walk_refusal, walk_rules, shape_refusal, shape_rules}
 use Rattle.walk.specs.declared.M2N.{M2N}
 use Rattle.walk.specs.declared.Fit.{Fit}
 use Rattle.walk.specs.declared.Variant.{Variant}
 use Rattle.walk.specs.declared.Variant.TheVariants.{FourMoments, FiveMoments}
 
 -- ---- one entry
-choices : (b : Bool) (m : M2N) (f : Fit) (r : Params) (n : Five) (e : Float) → better b (with_fit_of m f) r n e ≡ with_fit_of m (chosen b f r n e)
-choices true m f r n e = refl
-choices false m f r n e = refl
-
 pub keeps : (m : M2N) (f : Fit) (r : Params) → keep_of (with_fit_of m f) (Admitted r) ≡ with_fit_of m (fit_after m.len (five_of m.moments) f r)
 unfolding keep_of fit_after
-keeps m f r =
-    let e = squares (listed (five_of m.moments)) (listed (get_moments r)) (min m.len 5) in
-    rw (error_is (with_fit_of m f) (get_moments r), choices (lt e f.error) m f r (get_moments r) e)
+keeps m f r = rw (error_is (with_fit_of m f) (get_moments r))
 
 -- ---- the ways on
 pub out : (step : Float → Float → Step) (ε : Float) (n : ℕ) (μ p : Float) → step μ p ≡ Inadmissible → trail_from step ε (suc n) μ p ≡ Inadmissible ∷ []

@@ -1,6 +1,5 @@
 -- What the parts of the walk promise each other: the fit part of the state by itself. Definitions only.
-use Rattle.std.specs.Prelude.{Bool, true, false, ◌≡◌, ℕ, ◌+◌, ◌*◌, ◌-◌, ◌≤◌, min, Float, Result}
-use Rattle.std.specs.Float.Ieee.{lt}
+use Rattle.std.specs.Prelude.{◌≡◌, ℕ, ◌+◌, ◌*◌, ◌-◌, ◌≤◌, min, Float, Result}
 use Rattle.moments.specs.Lists.{listed}
 use Rattle.moments.specs.Mixture.{get_moments}
 use Rattle.moments.specs.declared.Five.{Five}
@@ -8,7 +7,7 @@ use Rattle.moments.specs.declared.Params.{Params}
 use Rattle.refusal.specs.Numbers.{unless_refused}
 use Rattle.refusal.specs.declared.Refusal.{Refusal}
 use Rattle.walk.specs.Variants.{variant_at}
-use Rattle.walk.specs.Walk.{reason_at, shape_refusal, squares, with_fit}
+use Rattle.walk.specs.Walk.{Visit, reason_at, shape_refusal, smaller, squares, with_fit}
 use Rattle.walk.specs.declared.M2N.{M2N}
 use Rattle.walk.specs.declared.Ended.{Ended}
 use Rattle.walk.specs.declared.Fit.{Fit}
@@ -21,14 +20,20 @@ use Rattle.walk.specs.declared.Variant.{Variant}
 abbrev pub fit_part : M2N → Fit
 fit_part m = record { new_moments = m.new_moments; parameters = m.parameters; error = m.error }
 
-abbrev pub chosen : Bool → Fit → Params → Five → Float → Fit
-chosen true f r n e = record { new_moments = n; parameters = r; error = e }
-chosen false f r n e = record { new_moments = n; parameters = f.parameters; error = f.error }
+abbrev pub fit_with : Five → Visit → Fit
+fit_with n v = record { new_moments = n; parameters = v.parameters; error = v.error }
 
--- the fit after an admitted iterate, for target moments a of which len are given
+abbrev pub best_of_fit : Fit → Visit
+best_of_fit f = record { parameters = f.parameters; error = f.error }
+
+-- an iterate, for target moments a of which len are given
+abbrev pub visit_at : ℕ → Five → Params → Visit
+visit_at len a r = record { parameters = r; error = squares (listed a) (listed (get_moments r)) (min len 5) }
+
+-- the fit after an admitted iterate
 unfoldable pub fit_after : ℕ → Five → Fit → Params → Fit
 unfolding squares
-fit_after len a f r = let n = get_moments r in let e = squares (listed a) (listed n) (min len 5) in chosen (lt e f.error) f r n e
+fit_after len a f r = fit_with (get_moments r) (smaller (best_of_fit f) (visit_at len a r))
 
 -- the state with a fit
 abbrev pub with_fit_of : M2N → Fit → M2N

@@ -1,13 +1,13 @@
 -- What holds of a walk in pieces, and of a trail in pieces. Statements, and how a trail goes on; `proofs/Pieces.antt` and `proofs/Whole.antt` prove them.
 use Rattle.std.specs.Prelude.{◌≡◌, List, [], ◌∷◌, ◌++◌, true, cond, ℕ, ◌+◌, ◌≤◌, Float, Option, Some, None, Result, Ok, Err}
-use Rattle.moments.specs.declared.Five.{Five}
-use Rattle.moments.specs.declared.Params.{Params}
 use Rattle.refusal.specs.declared.Refusal.{Refusal}
 use Rattle.step.specs.declared.Step.{Step}
 use Rattle.step.specs.declared.Step.TheVariants.{Admitted, Inadmissible}
 use Rattle.walk.specs.Machine.{begun, over, advanced, outcome_of}
 use Rattle.walk.specs.Trail.{Arguments, settled, trail}
-use Rattle.walk.specs.Walk.{Walked, trail_of, walk_of, with_fit}
+use Rattle.walk.specs.Walk.{Walked, trail_of, walk_of}
+use Rattle.walk.specs.Parts.{with_fit_of}
+use Rattle.walk.specs.declared.Fit.{Fit}
 use Rattle.walk.specs.declared.M2N.{M2N}
 use Rattle.walk.specs.declared.Walking.{Walking}
 
@@ -34,8 +34,8 @@ WholeInPieces = (m : M2N) (μ p : Float) → walk_of m μ p ≡ in_pieces m (beg
 
 -- the kept parameters, moments and error of a state never steer its walk
 abbrev pub FitNeverSteers : Type 0
-FitNeverSteers = (m : M2N) (n : Five) (r : Params) (e μ p : Float)
-    → (trail_of (with_fit m n r e) μ p ≡ trail_of m μ p) × ((walk_of (with_fit m n r e) μ p).outcome ≡ (walk_of m μ p).outcome)
+FitNeverSteers = (m : M2N) (f : Fit) (μ p : Float)
+    → (trail_of (with_fit_of m f) μ p ≡ trail_of m μ p) × ((walk_of (with_fit_of m f) μ p).outcome ≡ (walk_of m μ p).outcome)
 
 -- ---- a trail in pieces
 -- where a trail stands after its entries, if it goes on: with the last one's mu_2 and p_1 as its pair

@@ -1,5 +1,5 @@
 -- What a walk answers: refused, or its trail's length, the reason, and the best of what was met. Definitions only.
-use Rattle.std.specs.Prelude.{List, [], ◌∷◌, ◌++◌, Bool, true, false, ◌&&◌, not, cond, ℕ, zero, suc, min, ltb, eqb, length, get_or, Float, Option, Some, None, Ok, Err}
+use Rattle.std.specs.Prelude.{List, [], ◌∷◌, ◌++◌, Bool, ◌&&◌, not, cond, ℕ, zero, suc, min, ltb, eqb, length, get_or, Float, Option, Some, None, Ok, Err}
 use Rattle.std.specs.Float.{nan, binary64}
 use Rattle.std.specs.List.{last_or}
 use Rattle.std.specs.Float.Ieee.{add, sub, mul, lt, le}
@@ -52,15 +52,28 @@ with_fit m n r e = record {
   error = e;
 }
 
--- an admitted iterate: its moments are stored, and it is kept where its error is strictly smaller, so NaN never wins
-abbrev pub better : Bool → M2N → Params → Five → Float → M2N
-better true m r n e = with_fit m n r e
-better false m r n e = with_fit m n m.parameters m.error
+-- parameters, and their step error
+pub record Visit : Type 0 where
+  pub parameters : Params
+  pub error : Float
 
+-- of two the one with the strictly smaller error, otherwise the first: a NaN never wins
+abbrev pub smaller : Visit → Visit → Visit
+smaller v w = cond (lt w.error v.error) w v
+
+-- the best that a state has
+abbrev pub best_of : M2N → Visit
+best_of m = record { parameters = m.parameters; error = m.error }
+
+-- the state with these moments stored and this as its best
+abbrev pub with_best : M2N → Five → Visit → M2N
+with_best m n v = with_fit m n v.parameters v.error
+
+-- an admitted iterate: its moments are stored, and it is kept where its error is strictly smaller
 unfoldable pub keep_of : M2N → Step → M2N
 unfolding error_of
 keep_of m Inadmissible = m
-keep_of m (Admitted r) = let n = get_moments r in let e = error_of m n in better (lt e m.error) m r n e
+keep_of m (Admitted r) = let n = get_moments r in with_best m n (smaller (best_of m) (record { parameters = r; error = error_of m n }))
 
 -- the entries of a trail one after another
 unfoldable pub keep_all : M2N → List Step → M2N
