@@ -11,7 +11,7 @@ use Rattle.step.specs.declared.Step.{Step}
 use Rattle.step.specs.declared.Step.TheVariants.{Admitted, Inadmissible}
 use Rattle.walk.specs.Machine.{after, at_end, step_of, over, advanced}
 use Rattle.walk.specs.Parts.{fit_part, with_fit_of}
-use Rattle.walk.specs.Pieces.{PiecesAdd, OverStays, CountWithin}
+use Rattle.walk.specs.Pieces.{PiecesAdd, OverStays, CountWithin, CountsSteps, OnlyFitChanges}
 use Rattle.walk.specs.Trail.{step_for}
 use Rattle.walk.specs.Walk.{keep_of, shape_refusal}
 use Rattle.walk.specs.declared.Fit.{Fit}
@@ -100,6 +100,20 @@ pieces_add (suc a) b w =
     either (over w)
     (λ h. over_stays (suc a + b) w h ∙ sym (over_stays b w h) ∙ ap (advanced b) (sym (over_stays (suc a) w h)))
     (λ h. rw (e, one_on (a + b) w h, one_on a w h) (pieces_add a b (step_of w)))
+
+pub only_fit_changes : OnlyFitChanges
+only_fit_changes zero w = rw (none_on w)
+only_fit_changes (suc n) w =
+    either (over w)
+    (λ h. rw (over_stays (suc n) w h))
+    (λ h. rw (one_on n w h) (only_fit_changes n (step_of w) ∙ ap (λ x. with_fit_of x (fit_part (advanced n (step_of w)).state)) (step_only_fit w)))
+
+pub counts_steps : CountsSteps
+counts_steps zero w h = rw (none_on w) (omega arith)
+counts_steps (suc n) w h =
+    either (over w)
+    (λ e. let k : over w ≡ false = rw (over_stays (suc n) w e) at h in cc)
+    (λ e. rw (one_on n w e) (omega (arith, step_count w, counts_steps n (step_of w) (rw (one_on n w e) at h))))
 
 pub count_within : CountWithin
 count_within zero w h = rw (none_on w) h

@@ -1,12 +1,12 @@
 -- What holds of a walk in pieces, and of a trail in pieces. Statements, and how a trail goes on; `proofs/Pieces.antt` and `proofs/Whole.antt` prove them.
-use Rattle.std.specs.Prelude.{◌≡◌, List, [], ◌∷◌, ◌++◌, true, cond, ℕ, ◌+◌, ◌≤◌, Float, Option, Some, None, Result, Ok, Err}
+use Rattle.std.specs.Prelude.{◌≡◌, List, [], ◌∷◌, ◌++◌, true, false, cond, ℕ, ◌+◌, ◌≤◌, Float, Option, Some, None, Result, Ok, Err}
 use Rattle.refusal.specs.declared.Refusal.{Refusal}
 use Rattle.step.specs.declared.Step.{Step}
 use Rattle.step.specs.declared.Step.TheVariants.{Admitted, Inadmissible}
 use Rattle.walk.specs.Machine.{begun, over, advanced, outcome_of}
 use Rattle.walk.specs.Trail.{Arguments, settled, trail}
 use Rattle.walk.specs.Walk.{Walked, trail_of, walk_of}
-use Rattle.walk.specs.Parts.{with_fit_of}
+use Rattle.walk.specs.Parts.{fit_part, with_fit_of}
 use Rattle.walk.specs.declared.Fit.{Fit}
 use Rattle.walk.specs.declared.M2N.{M2N}
 use Rattle.walk.specs.declared.Walking.{Walking}
@@ -22,6 +22,14 @@ OverStays = (n : ℕ) (w : Walking) → over w ≡ true → advanced n w ≡ w
 -- the count never passes the limit
 abbrev pub CountWithin : Type 0
 CountWithin = (n : ℕ) (w : Walking) → w.count ≤ w.state.max_iter → (advanced n w).count ≤ w.state.max_iter
+
+-- a walk that is not over has taken each of its steps
+abbrev pub CountsSteps : Type 0
+CountsSteps = (n : ℕ) (w : Walking) → over (advanced n w) ≡ false → (advanced n w).count ≡ w.count + n
+
+-- of the state only the fit changes
+abbrev pub OnlyFitChanges : Type 0
+OnlyFitChanges = (n : ℕ) (w : Walking) → (advanced n w).state ≡ with_fit_of w.state (fit_part (advanced n w).state)
 
 -- begun, and gone on with for its limit
 abbrev pub in_pieces : M2N → Result Walking Refusal → Walked
