@@ -14,6 +14,7 @@ use Rattle.walk.specs.Parts.{with_fit_of}
 use Rattle.walk.specs.Pieces.{FitNeverSteers, stands_after, goes_on, TrailsAdd}
 use Rattle.walk.specs.Trail.{Arguments, settled, step_for, trail, trail_from}
 use Rattle.walk.specs.Walk.{keep_all, trail_of, walk_refusal, answered, walk_of}
+use Rattle.walk.proofs.Visits.{same_visits}
 
 pub trails_add : TrailsAdd
 unfolding trail_from
@@ -42,7 +43,7 @@ trails_add (suc n) k a =
 
 pub fit_never_steers : FitNeverSteers
 unfolding trail_of walk_of walk_refusal
-fit_never_steers m f μ p = (refl, go (walk_refusal m p))
+fit_never_steers m f μ p = (refl, same_visits m f (trail_of m μ p), go (walk_refusal m p))
   where
     go : (c : Checked) → (answered c (with_fit_of m f) (keep_all (with_fit_of m f) (trail_of m μ p)) (trail_of m μ p)).outcome ≡ (answered c m (keep_all m (trail_of m μ p)) (trail_of m μ p)).outcome
     go (Ok u) = refl

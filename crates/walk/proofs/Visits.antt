@@ -6,9 +6,10 @@ use lib.Ieee.{Float, lt}
 use Rattle.float.proofs.Order.{lt_irrefl, lt_chain}
 use Rattle.std.specs.List.{fold}
 use Rattle.moments.specs.Mixture.{get_moments}
-use Rattle.moments.specs.declared.Five.{Five}
 use Rattle.step.specs.declared.Step.{Step}
 use Rattle.step.specs.declared.Step.TheVariants.{Admitted, Inadmissible}
+use Rattle.walk.specs.Parts.{best_of_fit, fit_part, fit_with, with_fit_of}
+use Rattle.walk.specs.declared.Fit.{Fit}
 use Rattle.walk.specs.Visits.{visits, NoneBelow, KeepsTheSmallest, KeepsTheLeast}
 use Rattle.walk.specs.Walk.{Visit, best_of, error_of, keep_of, keep_all, smaller}
 use Rattle.walk.specs.declared.M2N.{M2N}
@@ -49,17 +50,21 @@ none_smaller v (w ∷ l) h = ap (λ b. fold smaller (cond b w v) l) h.0 ∙ none
 pub smallest_again : (v : Visit) (l : List Visit) → fold smaller (fold smaller v l) l ≡ fold smaller v l
 smallest_again v l = none_smaller (fold smaller v l) l (none_below v l)
 
--- ---- of a trail: the errors are those at the state's moments, which stay as they are
-over_errors : (m m' : M2N) (t : List Step) → ((n : Five) → error_of m' n ≡ error_of m n) → best_of (keep_all m' t) ≡ fold smaller (best_of m') (visits m t)
+-- ---- of a trail, from any fit: the moments and how many are given stay as they are, and so do the errors
+over_fits : (m : M2N) (f : Fit) (t : List Step) → best_of (keep_all (with_fit_of m f) t) ≡ fold smaller (best_of_fit f) (visits m t)
 unfolding keep_all keep_of error_of
-over_errors m m' [] h = refl
-over_errors m m' (Inadmissible ∷ t) h = over_errors m m' t h
-over_errors m m' (Admitted r ∷ t) h =
-    over_errors m (keep_of m' (Admitted r)) t h
-    ∙ ap (λ e. fold smaller (smaller (best_of m') (record { parameters = r; error = e })) (visits m t)) (h (get_moments r))
+over_fits m f [] = refl
+over_fits m f (Inadmissible ∷ t) = over_fits m f t
+over_fits m f (Admitted r ∷ t) = let n = get_moments r in over_fits m (fit_with n (smaller (best_of_fit f) (record { parameters = r; error = error_of m n }))) t
 
 pub keeps_the_smallest : KeepsTheSmallest
-keeps_the_smallest m t = over_errors m m t (λ n. refl)
+keeps_the_smallest m t = over_fits m (fit_part m) t
 
 pub keeps_the_least : KeepsTheLeast
 keeps_the_least m t = subst (λ v. NoneBelow v.error (visits m t)) (sym (keeps_the_smallest m t)) (none_below (best_of m) (visits m t))
+
+pub same_visits : (m : M2N) (f : Fit) (t : List Step) → visits (with_fit_of m f) t ≡ visits m t
+unfolding error_of
+same_visits m f [] = refl
+same_visits m f (Inadmissible ∷ t) = same_visits m f t
+same_visits m f (Admitted r ∷ t) = ap (λ l. record { parameters = r; error = error_of m (get_moments r) } ∷ l) (same_visits m f t)

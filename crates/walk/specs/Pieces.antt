@@ -5,6 +5,7 @@ use Rattle.step.specs.declared.Step.{Step}
 use Rattle.step.specs.declared.Step.TheVariants.{Admitted, Inadmissible}
 use Rattle.walk.specs.Machine.{begun, over, advanced, outcome_of}
 use Rattle.walk.specs.Trail.{Arguments, settled, trail}
+use Rattle.walk.specs.Visits.{visited}
 use Rattle.walk.specs.Walk.{Walked, trail_of, walk_of}
 use Rattle.walk.specs.Parts.{fit_part, with_fit_of}
 use Rattle.walk.specs.declared.Fit.{Fit}
@@ -40,10 +41,10 @@ in_pieces m (Err e) = record { state = m; outcome = Err e }
 abbrev pub WholeInPieces : Type 0
 WholeInPieces = (m : M2N) (μ p : Float) → walk_of m μ p ≡ in_pieces m (begun m μ p)
 
--- the kept parameters, moments and error of a state never steer its walk
+-- the kept parameters, moments and error never steer a walk: with any other, the trail, what is visited and the outcome are the same
 abbrev pub FitNeverSteers : Type 0
 FitNeverSteers = (m : M2N) (f : Fit) (μ p : Float)
-    → (trail_of (with_fit_of m f) μ p ≡ trail_of m μ p) × ((walk_of (with_fit_of m f) μ p).outcome ≡ (walk_of m μ p).outcome)
+    → (trail_of (with_fit_of m f) μ p ≡ trail_of m μ p) × (visited (with_fit_of m f) μ p ≡ visited m μ p) × ((walk_of (with_fit_of m f) μ p).outcome ≡ (walk_of m μ p).outcome)
 
 -- ---- a trail in pieces
 -- where a trail stands after its entries, if it goes on: with the last one's mu_2 and p_1 as its pair
