@@ -14,7 +14,7 @@ use Rattle.std.specs.Prelude.{Option, Some, None, Ok, Err}
 use Rattle.step.specs.declared.Step.{Step}
 use Rattle.step.specs.declared.Step.TheVariants.{Admitted, Inadmissible}
 use Rattle.walk.specs.Machine.{after, at_end, step_of, over, advanced}
-use Rattle.walk.specs.Parts.{fit_after, fit_part, shape_variant, with_fit_of}
+use Rattle.walk.specs.Parts.{fit_after, fit_part, shape_variant, steps_on}
 use Rattle.walk.specs.Trail.{settled, step_for}
 use Rattle.walk.specs.Variants.{variant_at}
 use Rattle.walk.specs.Walk.{shape_refusal}
@@ -26,10 +26,6 @@ use Rattle.walk.specs.declared.Variant.{Variant}
 use Rattle.walk.specs.declared.Walking.{Walking}
 use Rattle.walk.proofs.Pieces.{none_on, one_on, over_is, over_stays, same_shape, either}
 use Rattle.walk.proofs.Trails.{keeps, has_shape}
-
--- the walk w, k steps on
-abbrev pub steps_on : Walking → Fit → ℕ → Float → Float → Option Reason → Walking
-steps_on w f k μ p o = record { state = with_fit_of w.state f; mu_2 = μ; p_1 = p; count = w.count + k; stopped = o }
 
 abbrev pub left_of : Walking → ℕ → Fit → ℕ → Float → Float → Walking
 left_of w n f k μ p = advanced (n - k) (steps_on w f k μ p None)

@@ -14,7 +14,7 @@ use Rattle.std.specs.Prelude.{Option, Some, None, Ok, Err}
 use Rattle.step.specs.declared.Step.{Step}
 use Rattle.step.specs.declared.Step.TheVariants.{Admitted, Inadmissible}
 use Rattle.walk.specs.Machine.{at_start, begun, outcome_of}
-use Rattle.walk.specs.Parts.{ended_after, fit_after, fit_part, with_fit_of}
+use Rattle.walk.specs.Parts.{ended_after, fit_after, fit_part, steps_on, with_fit_of}
 use Rattle.walk.specs.Pieces.{in_pieces, WholeInPieces}
 use Rattle.walk.specs.Trail.{settled, step_for, trail_from}
 use Rattle.walk.specs.Walk.{Walked, keep_of, keep_all, stopped, stopped_at, trail_of, shape_refusal, walk_refusal, answered, walk_of}
@@ -26,7 +26,7 @@ use Rattle.walk.specs.declared.Reason.TheVariants.{Settled, Spent}
 use Rattle.walk.specs.declared.Walking.{Walking}
 use Rattle.std.specs.Option.{unwrap_or}
 use Rattle.moments.specs.Lists.{five_of}
-use Rattle.walk.proofs.Left.{left_of, steps_on, begins, goes_on, turned_away, settles, spent}
+use Rattle.walk.proofs.Left.{left_of, begins, goes_on, turned_away, settles, spent}
 use Rattle.walk.proofs.Pieces.{same_shape}
 use Rattle.walk.proofs.Trails.{keeps, out, on, shape_allowed}
 

@@ -1,5 +1,5 @@
 -- What the parts of the walk promise each other: the fit part of the state by itself. Definitions only.
-use Rattle.std.specs.Prelude.{◌≡◌, ℕ, ◌+◌, ◌*◌, ◌-◌, ◌≤◌, min, Float, Result}
+use Rattle.std.specs.Prelude.{◌≡◌, ℕ, ◌+◌, ◌*◌, ◌-◌, ◌≤◌, min, Float, Option, Result}
 use Rattle.moments.specs.Lists.{listed}
 use Rattle.moments.specs.Mixture.{get_moments}
 use Rattle.moments.specs.declared.Five.{Five}
@@ -15,6 +15,7 @@ use Rattle.walk.specs.declared.Reason.{Reason}
 use Rattle.walk.specs.declared.Seen.{Seen}
 use Rattle.walk.specs.declared.Turn.{Turn}
 use Rattle.walk.specs.declared.Variant.{Variant}
+use Rattle.walk.specs.declared.Walking.{Walking}
 
 -- the fit part of a state
 abbrev pub fit_part : M2N → Fit
@@ -46,6 +47,10 @@ shape_variant m = unless_refused (shape_refusal m) (variant_at m.variant)
 -- how a walk ended that was stopped so
 abbrev pub ended_after : ℕ → ℕ → Reason → Ended
 ended_after count limit stopped = record { count = count; reason = reason_at count limit stopped }
+
+-- a walk k steps on, at a fit and a pair
+abbrev pub steps_on : Walking → Fit → ℕ → Float → Float → Option Reason → Walking
+steps_on w f k μ p stopped = record { state = with_fit_of w.state f; mu_2 = μ; p_1 = p; count = w.count + k; stopped = stopped }
 
 -- one turn of the walk's count: as it was; or with another pair to look out for; or, where the pair is the one looked out for, with whole rounds counted
 pub data Turned (count limit : ℕ) (μ p : Float) (seen : Seen) (r : Turn) : Type 0 where

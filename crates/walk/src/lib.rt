@@ -2,10 +2,10 @@
 // step limit is reached. The best parameters met on the way are kept.
 #![tactic(auto)]
 
-ghost use Rattle.std.specs.Prelude.{◌≡◌, true, false, ◌≤◌, ◌<◌, min};
+ghost use Rattle.std.specs.Prelude.{◌≡◌, true, false, ◌+◌, ◌≤◌, ◌<◌, min};
 ghost use Rattle.moments.specs.Lists.{five_of, listed};
 ghost use Rattle.walk.specs.Machine.{advanced, at_end, begun, outcome_of, over};
-ghost use Rattle.walk.specs.Parts.{Turned, ended_after, fit_after, fit_part, shape_variant, with_fit_of};
+ghost use Rattle.walk.specs.Parts.{Turned, ended_after, fit_after, fit_part, shape_variant, steps_on, with_fit_of};
 ghost use Rattle.walk.specs.Reasons.{number_of};
 ghost use Rattle.walk.specs.Squares.{squares_summed};
 ghost use Rattle.walk.specs.Trail.{step_for};
@@ -283,13 +283,13 @@ fn same(x: f64, y: f64) -> bool
 // A walk that comes back to a pair it has seen goes round from there on, and going round changes
 // nothing more: as many whole rounds as the limit leaves are counted and not walked. The pair looked
 // out for is that of the last power of two of steps, so a round of any length is found.
-fn count_rounds(count: usize, max_iter: usize, mu: f64, p: f64, seen: Seen) -> Turn
-    requires { (seen.at < count) × (count ≤ max_iter) }
-    ensures { Turned count max_iter mu p seen result }
+fn count_rounds(count: usize, limit: usize, mu: f64, p: f64, seen: Seen) -> Turn
+    requires { (seen.at < count) × (count ≤ limit) }
+    ensures { Turned count limit mu p seen result }
 {
     if same(mu, seen.mu) && same(p, seen.p) {
         let round = count - seen.at;
-        let to = count + (max_iter - count) / round * round;
+        let to = count + (limit - count) / round * round;
         return Turn {
             count: to,
             seen: Seen { mu, p, at: to },
@@ -334,6 +334,26 @@ pub fn is_over(w: Walking) -> bool
     check_shape(w.state).is_err() || at_end(w)
 }
 
+fn steps_on(
+    w: Walking,
+    f: Fit,
+    count: usize,
+    mu_2: f64,
+    p_1: f64,
+    stopped: Option<Reason>,
+) -> Walking
+    requires { w.count + count ≤ w.state.max_iter }
+    ensures { result ≡ steps_on w f count mu_2 p_1 stopped }
+{
+    Walking {
+        state: with_fit(w.state, f),
+        mu_2,
+        p_1,
+        count: w.count + count,
+        stopped,
+    }
+}
+
 // Steps of a walk that is not over. A turn may count whole rounds, so the loop is no `for` over its
 // turns; the count is the piece's own, so that a piece finds rounds as a whole walk does.
 fn go_on(w: Walking, variant: Variant, n: usize) -> Walking
@@ -353,38 +373,20 @@ fn go_on(w: Walking, variant: Variant, n: usize) -> Walking
         let s = variant.step(a, mu, p);
         count += 1;
         let Step::Admitted(r) = s else {
-            return Walking {
-                state: with_fit(m, f),
-                mu_2: mu,
-                p_1: p,
-                count: w.count + count,
-                stopped: Some(Reason::Inadmissible),
-            };
+            return steps_on(w, f, count, mu, p, Some(Reason::Inadmissible));
         };
         f = fit_after(m.len, a, f, r);
         let settled = number::abs(p - r.p_1) < m.epsilon;
         mu = r.mu_2;
         p = r.p_1;
         if settled {
-            return Walking {
-                state: with_fit(m, f),
-                mu_2: mu,
-                p_1: p,
-                count: w.count + count,
-                stopped: Some(Reason::Settled),
-            };
+            return steps_on(w, f, count, mu, p, Some(Reason::Settled));
         }
         let t = count_rounds(count, to, mu, p, seen);
         count = t.count;
         seen = t.seen;
     }
-    Walking {
-        state: with_fit(m, f),
-        mu_2: mu,
-        p_1: p,
-        count: w.count + count,
-        stopped: None,
-    }
+    steps_on(w, f, count, mu, p, None)
 }
 
 // At most n steps on, up to the end of the walk.

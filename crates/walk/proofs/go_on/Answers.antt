@@ -22,7 +22,7 @@ returns-in_default c =
     let w = c.args.w in
     let g = goes w c.requires.going in
     let e = stepped_on w.state _ _ _ _ _ _ c.requires.its_variant c.first_five-a.ensures c.step-s.ensures c.in_default.is in
-    rw (c.with_fit.ensures, c.loop-count.invariant.1, turned_away w c.args.n _ g.shape (omega (arith, g.below)) c.min-to.ensures _ _ _ _ c.loop-count-test.true e)
+    rw (c.steps_on.ensures, c.loop-count.invariant.1, turned_away w c.args.n _ g.shape (omega (arith, g.below)) c.min-to.ensures _ _ _ _ c.loop-count-test.true e)
 
 pub returns-then-settled : goal.returns-then-settled
 returns-then-settled c =
@@ -32,7 +32,7 @@ returns-then-settled c =
     let e = stepped_on w.state _ _ _ _ _ _ c.requires.its_variant a c.step-s.ensures c.in-Admitted.is in
     let f = fit_on _ w.state.moments _ _ _ _ a c.fit_after-f.ensures in
     let s = settled_on _ _ _ _ true c.abs.ensures c.if-settled.true in
-    rw (c.with_fit-then-settled.ensures, f, c.loop-count.invariant.1, settles w c.args.n _ g.shape (omega (arith, g.below)) c.min-to.ensures _ _ _ _ _ c.loop-count-test.true e s)
+    rw (c.steps_on-then-settled.ensures, f, c.loop-count.invariant.1, settles w c.args.n _ g.shape (omega (arith, g.below)) c.min-to.ensures _ _ _ _ _ c.loop-count-test.true e s)
 
 pub count_rounds-t-requires : goal.count_rounds-t-requires
 count_rounds-t-requires c = (omega (arith, c.loop-count.invariant.2.counted), omega arith)
@@ -50,12 +50,12 @@ loop-count-preserved c =
     let t = turns w.state (left_of w n) c.min-to.result on _ _ _ _ _ _ (omega arith) (since_on w.state _ _ _ _ _ _ _ c.loop-count.invariant.2 e f s) c.count_rounds-t.ensures in
     (t.within, c.loop-count.invariant.1 ∙ on _ _ _ _ _ c.loop-count-test.true e s ∙ ap (λ x. left_of w n x (c.loop-count.count + 1) c.in-Admitted.r.mu_2 c.in-Admitted.r.p_1) (sym f) ∙ t.the_same, t.since)
 
-pub overflow_add-result-2 : goal.overflow_add-result-2
-overflow_add-result-2 c = omega (arith, c.loop-count.invariant.0, (goes c.args.w c.requires.going).below)
+pub steps_on-requires-2 : goal.steps_on-requires-2
+steps_on-requires-2 c = omega (arith, c.loop-count.invariant.0, (goes c.args.w c.requires.going).below)
 
 pub returns : goal.returns
 returns c =
     let w = c.args.w in
     let g = goes w c.requires.going in
     let e : c.loop-count.count ≡ c.min-to.result = omega (arith, c.loop-count.invariant.0) in
-    rw (c.with_fit-2.ensures, c.loop-count.invariant.1, e, spent w c.args.n _ g.shape (omega (arith, g.below)) c.min-to.ensures c.loop-count.f c.loop-count.mu c.loop-count.p)
+    rw (c.steps_on-2.ensures, c.loop-count.invariant.1, e, spent w c.args.n _ g.shape (omega (arith, g.below)) c.min-to.ensures c.loop-count.f c.loop-count.mu c.loop-count.p)
