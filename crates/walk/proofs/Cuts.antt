@@ -10,7 +10,7 @@ use Rattle.refusal.specs.Numbers.{Checked}
 use Rattle.std.specs.Prelude.{None, Ok, Err}
 use Rattle.step.specs.declared.Step.{Step}
 use Rattle.step.specs.declared.Step.TheVariants.{Admitted, Inadmissible}
-use Rattle.walk.specs.Parts.{with_fit_of}
+use Rattle.walk.specs.Walk.{with_fit}
 use Rattle.walk.specs.Pieces.{FitNeverSteers, stands_after, goes_on, TrailsAdd}
 use Rattle.walk.specs.Trail.{Arguments, settled, step_for, trail, trail_from}
 use Rattle.walk.specs.Walk.{keep_all, trail_of, walk_refusal, answered, walk_of}
@@ -45,6 +45,6 @@ pub fit_never_steers : FitNeverSteers
 unfolding trail_of walk_of walk_refusal
 fit_never_steers m f μ p = (refl, same_visits m f (trail_of m μ p), go (walk_refusal m p))
   where
-    go : (c : Checked) → (answered c (with_fit_of m f) (keep_all (with_fit_of m f) (trail_of m μ p)) (trail_of m μ p)).outcome ≡ (answered c m (keep_all m (trail_of m μ p)) (trail_of m μ p)).outcome
+    go : (c : Checked) → (answered c (with_fit m f) (keep_all (with_fit m f) (trail_of m μ p)) (trail_of m μ p)).outcome ≡ (answered c m (keep_all m (trail_of m μ p)) (trail_of m μ p)).outcome
     go (Ok u) = refl
     go (Err e) = refl

@@ -14,7 +14,8 @@ use Rattle.std.specs.Prelude.{Option, Some, None, Ok, Err}
 use Rattle.step.specs.declared.Step.{Step}
 use Rattle.step.specs.declared.Step.TheVariants.{Admitted, Inadmissible}
 use Rattle.walk.specs.Machine.{after, at_end, step_of, over, advanced}
-use Rattle.walk.specs.Parts.{fit_after, fit_part, shape_variant, steps_on}
+use Rattle.walk.specs.Parts.{fit_after, shape_variant, steps_on}
+use Rattle.walk.specs.Walk.{fit_part}
 use Rattle.walk.specs.Trail.{settled, step_for}
 use Rattle.walk.specs.Variants.{variant_at}
 use Rattle.walk.specs.Walk.{shape_refusal}

@@ -10,7 +10,7 @@ use Rattle.std.specs.Prelude.{Option, Some, None, Ok, Err, is_some, is_err}
 use Rattle.step.specs.declared.Step.{Step}
 use Rattle.step.specs.declared.Step.TheVariants.{Admitted, Inadmissible}
 use Rattle.walk.specs.Machine.{after, at_end, step_of, over, advanced}
-use Rattle.walk.specs.Parts.{fit_part, with_fit_of}
+use Rattle.walk.specs.Walk.{fit_part, with_fit}
 use Rattle.walk.specs.Pieces.{PiecesAdd, OverStays, CountWithin, CountsSteps, OnlyFitChanges}
 use Rattle.walk.specs.Trail.{step_for}
 use Rattle.walk.specs.Walk.{keep_of, shape_refusal}
@@ -50,7 +50,7 @@ pub over_is : (w : Walking) → shape_refusal w.state ≡ Ok tt → over w ≡ a
 unfolding over
 over_is w h = rw h
 
-pub same_shape : (m : M2N) (f : Fit) → shape_refusal m ≡ Ok tt → shape_refusal (with_fit_of m f) ≡ Ok tt
+pub same_shape : (m : M2N) (f : Fit) → shape_refusal m ≡ Ok tt → shape_refusal (with_fit m f) ≡ Ok tt
 unfolding shape_refusal
 same_shape m f h = h
 
@@ -68,7 +68,7 @@ pub step_count : (w : Walking) → (step_of w).count ≡ w.count + 1
 unfolding step_of
 step_count w = after_count w (step_for w.state.variant w.state.moments w.mu_2 w.p_1)
 
-pub step_only_fit : (w : Walking) → (step_of w).state ≡ with_fit_of w.state (fit_part (step_of w).state)
+pub step_only_fit : (w : Walking) → (step_of w).state ≡ with_fit w.state (fit_part (step_of w).state)
 unfolding step_of
 step_only_fit w =
     let s = step_for w.state.variant w.state.moments w.mu_2 w.p_1 in
@@ -106,7 +106,7 @@ only_fit_changes zero w = rw (none_on w)
 only_fit_changes (suc n) w =
     either (over w)
     (λ h. rw (over_stays (suc n) w h))
-    (λ h. rw (one_on n w h) (only_fit_changes n (step_of w) ∙ ap (λ x. with_fit_of x (fit_part (advanced n (step_of w)).state)) (step_only_fit w)))
+    (λ h. rw (one_on n w h) (only_fit_changes n (step_of w) ∙ ap (λ x. with_fit x (fit_part (advanced n (step_of w)).state)) (step_only_fit w)))
 
 pub counts_steps : CountsSteps
 counts_steps zero w h = rw (none_on w) (omega arith)

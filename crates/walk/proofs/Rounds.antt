@@ -15,7 +15,8 @@ use Rattle.moments.specs.Mixture.{get_moments}
 use Rattle.moments.specs.declared.Five.{Five}
 use Rattle.moments.specs.declared.Params.{Params}
 use Rattle.step.specs.declared.Step.TheVariants.{Admitted}
-use Rattle.walk.specs.Parts.{best_of_fit, fit_after, fit_with, visit_at, Turned, stays, looks, rounds_on}
+use Rattle.walk.specs.Parts.{fit_after, visit_at, Turned, stays, looks, rounds_on}
+use Rattle.walk.specs.Walk.{best_of, fit_with}
 use Rattle.walk.specs.Trail.{settled, step_for}
 use Rattle.walk.specs.Walk.{smaller}
 use Rattle.walk.specs.declared.Fit.{Fit}
@@ -38,7 +39,7 @@ abbrev last_moments : Five → List Params → Five
 last_moments n [] = n
 last_moments n (r ∷ t) = last_moments (get_moments r) t
 
-over_is : (len : ℕ) (a : Five) (f : Fit) (t : List Params) → fit_over len a f t ≡ fit_with (last_moments f.new_moments t) (fold smaller (best_of_fit f) (map (visit_at len a) t))
+over_is : (len : ℕ) (a : Five) (f : Fit) (t : List Params) → fit_over len a f t ≡ fit_with (last_moments f.new_moments t) (fold smaller (best_of f) (map (visit_at len a) t))
 unfolding fit_after
 over_is len a f [] = refl
 over_is len a f (r ∷ t) = over_is len a (fit_after len a f r) t
@@ -52,8 +53,8 @@ round_again : (len : ℕ) (a : Five) (f : Fit) (t : List Params) → fit_over le
 round_again len a f t =
     let l = map (visit_at len a) t in
     over_is len a (fit_over len a f t) t
-    ∙ ap (λ g. fit_with (last_moments g.new_moments t) (fold smaller (best_of_fit g) l)) (over_is len a f t)
-    ∙ ap₂ fit_with (last_again f.new_moments t) (smallest_again (best_of_fit f) l)
+    ∙ ap (λ g. fit_with (last_moments g.new_moments t) (fold smaller (best_of g) l)) (over_is len a f t)
+    ∙ ap₂ fit_with (last_again f.new_moments t) (smallest_again (best_of f) l)
     ∙ sym (over_is len a f t)
 
 -- ---- steps that lead from a pair to another: admitted, and none settled

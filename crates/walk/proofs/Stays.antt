@@ -14,18 +14,18 @@ use Rattle.step.specs.declared.Step.{Step}
 use Rattle.step.specs.declared.Step.TheVariants.{Admitted, Inadmissible}
 use Rattle.walk.specs.Trail.{step_for, trail_from}
 use Rattle.walk.specs.Walk.{keep_of, keep_all, trail_of, walk_refusal, answered, walk_of}
-use Rattle.walk.specs.Parts.{fit_part, with_fit_of}
+use Rattle.walk.specs.Walk.{fit_part, with_fit}
 use Rattle.walk.specs.declared.Fit.{Fit}
 use Rattle.walk.specs.declared.M2N.{M2N}
 use Rattle.walk.proofs.Trails.{out}
 
 -- ---- all but the fit
-pub keeps_apart : (m : M2N) (s : Step) (f : Fit) → with_fit_of (keep_of m s) f ≡ with_fit_of m f
+pub keeps_apart : (m : M2N) (s : Step) (f : Fit) → with_fit (keep_of m s) f ≡ with_fit m f
 unfolding keep_of
 keeps_apart m Inadmissible f = refl
 keeps_apart m (Admitted r) f = refl
 
-pub only_fit : (m : M2N) (t : List Step) → keep_all m t ≡ with_fit_of m (fit_part (keep_all m t))
+pub only_fit : (m : M2N) (t : List Step) → keep_all m t ≡ with_fit m (fit_part (keep_all m t))
 unfolding keep_all
 only_fit m [] = refl
 only_fit m (s ∷ t) = only_fit (keep_of m s) t ∙ keeps_apart m s (fit_part (keep_all (keep_of m s) t))

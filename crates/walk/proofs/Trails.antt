@@ -20,7 +20,8 @@ use Rattle.step.specs.Steps.{sigma2_squared}
 use Rattle.step.specs.declared.Step.{Step}
 use Rattle.step.specs.declared.Step.TheVariants.{Admitted, Inadmissible}
 use Rattle.walk.proofs.Sums.{error_is}
-use Rattle.walk.specs.Parts.{fit_after, shape_variant, with_fit_of}
+use Rattle.walk.specs.Parts.{fit_after, shape_variant}
+use Rattle.walk.specs.Walk.{with_fit}
 use Rattle.walk.specs.Trail.{settled, step_for, trail_from}
 use Rattle.walk.specs.Variants.{is_variant, variant_at, variant_number}
 use Rattle.walk.specs.Walk.{needed_by, keep_of, walk_refusal, walk_rules, shape_refusal, shape_rules}
@@ -30,9 +31,9 @@ use Rattle.walk.specs.declared.Variant.{Variant}
 use Rattle.walk.specs.declared.Variant.TheVariants.{FourMoments, FiveMoments}
 
 -- ---- one entry
-pub keeps : (m : M2N) (f : Fit) (r : Params) → keep_of (with_fit_of m f) (Admitted r) ≡ with_fit_of m (fit_after m.len (five_of m.moments) f r)
+pub keeps : (m : M2N) (f : Fit) (r : Params) → keep_of (with_fit m f) (Admitted r) ≡ with_fit m (fit_after m.len (five_of m.moments) f r)
 unfolding keep_of fit_after
-keeps m f r = rw (error_is (with_fit_of m f) (get_moments r))
+keeps m f r = rw (error_is (with_fit m f) (get_moments r))
 
 -- ---- the ways on
 pub out : (step : Float → Float → Step) (ε : Float) (n : ℕ) (μ p : Float) → step μ p ≡ Inadmissible → trail_from step ε (suc n) μ p ≡ Inadmissible ∷ []

@@ -8,7 +8,7 @@ use Rattle.std.specs.List.{fold}
 use Rattle.moments.specs.Mixture.{get_moments}
 use Rattle.step.specs.declared.Step.{Step}
 use Rattle.step.specs.declared.Step.TheVariants.{Admitted, Inadmissible}
-use Rattle.walk.specs.Parts.{best_of_fit, fit_part, fit_with, with_fit_of}
+use Rattle.walk.specs.Walk.{best_of, fit_part, fit_with, with_fit}
 use Rattle.walk.specs.declared.Fit.{Fit}
 use Rattle.walk.specs.Visits.{visits, NoneBelow, KeepsTheSmallest, KeepsTheLeast}
 use Rattle.walk.specs.Walk.{Visit, best_of, error_of, keep_of, keep_all, smaller}
@@ -51,19 +51,19 @@ pub smallest_again : (v : Visit) (l : List Visit) → fold smaller (fold smaller
 smallest_again v l = none_smaller (fold smaller v l) l (none_below v l)
 
 -- ---- of a trail, from any fit: the moments and how many are given stay as they are, and so do the errors
-over_fits : (m : M2N) (f : Fit) (t : List Step) → best_of (keep_all (with_fit_of m f) t) ≡ fold smaller (best_of_fit f) (visits m t)
+over_fits : (m : M2N) (f : Fit) (t : List Step) → best_of (fit_part (keep_all (with_fit m f) t)) ≡ fold smaller (best_of f) (visits m t)
 unfolding keep_all keep_of error_of
 over_fits m f [] = refl
 over_fits m f (Inadmissible ∷ t) = over_fits m f t
-over_fits m f (Admitted r ∷ t) = let n = get_moments r in over_fits m (fit_with n (smaller (best_of_fit f) (record { parameters = r; error = error_of m n }))) t
+over_fits m f (Admitted r ∷ t) = let n = get_moments r in over_fits m (fit_with n (smaller (best_of f) (record { parameters = r; error = error_of m n }))) t
 
 pub keeps_the_smallest : KeepsTheSmallest
 keeps_the_smallest m t = over_fits m (fit_part m) t
 
 pub keeps_the_least : KeepsTheLeast
-keeps_the_least m t = subst (λ v. NoneBelow v.error (visits m t)) (sym (keeps_the_smallest m t)) (none_below (best_of m) (visits m t))
+keeps_the_least m t = subst (λ v. NoneBelow v.error (visits m t)) (sym (keeps_the_smallest m t)) (none_below (best_of (fit_part m)) (visits m t))
 
-pub same_visits : (m : M2N) (f : Fit) (t : List Step) → visits (with_fit_of m f) t ≡ visits m t
+pub same_visits : (m : M2N) (f : Fit) (t : List Step) → visits (with_fit m f) t ≡ visits m t
 unfolding error_of
 same_visits m f [] = refl
 same_visits m f (Inadmissible ∷ t) = same_visits m f t

@@ -14,7 +14,8 @@ use Rattle.std.specs.Prelude.{Option, Some, None, Ok, Err}
 use Rattle.step.specs.declared.Step.{Step}
 use Rattle.step.specs.declared.Step.TheVariants.{Admitted, Inadmissible}
 use Rattle.walk.specs.Machine.{at_start, begun, outcome_of}
-use Rattle.walk.specs.Parts.{ended_after, fit_after, fit_part, steps_on, with_fit_of}
+use Rattle.walk.specs.Parts.{ended_after, fit_after, steps_on}
+use Rattle.walk.specs.Walk.{fit_part, with_fit}
 use Rattle.walk.specs.Pieces.{in_pieces, WholeInPieces}
 use Rattle.walk.specs.Trail.{settled, step_for, trail_from}
 use Rattle.walk.specs.Walk.{Walked, keep_of, keep_all, stopped, stopped_at, trail_of, shape_refusal, walk_refusal, answered, walk_of}
@@ -46,9 +47,9 @@ ends m k o t = record { state = keep_all m t; outcome = Ok (ended_after (counted
 module _ (m : M2N) (μ₀ p₀ : Float) (shape : shape_refusal m ≡ Ok tt) where
   -- k steps on from the start, with n to come, at a fit and a pair
   abbrev Ends : ℕ → Fit → ℕ → Float → Float → Option Step → Type 0
-  Ends n f k μ p o = outcome_of (left_of (at_start m μ₀ p₀) m.max_iter f k μ p) ≡ ends (with_fit_of m f) k o (trail_from (step_for m.variant m.moments) m.epsilon n μ p)
+  Ends n f k μ p o = outcome_of (left_of (at_start m μ₀ p₀) m.max_iter f k μ p) ≡ ends (with_fit m f) k o (trail_from (step_for m.variant m.moments) m.epsilon n μ p)
 
-  answers : (f : Fit) (k : ℕ) (μ p : Float) (o : Option Reason) → outcome_of (steps_on (at_start m μ₀ p₀) f k μ p o) ≡ record { state = with_fit_of m f; outcome = Ok (ended_after k m.max_iter (unwrap_or o Spent)) }
+  answers : (f : Fit) (k : ℕ) (μ p : Float) (o : Option Reason) → outcome_of (steps_on (at_start m μ₀ p₀) f k μ p o) ≡ record { state = with_fit m f; outcome = Ok (ended_after k m.max_iter (unwrap_or o Spent)) }
   unfolding outcome_of
   answers f k μ p o = let e : 0 + k ≡ k = omega arith in rw (same_shape m f shape, e)
 
@@ -71,11 +72,11 @@ module _ (m : M2N) (μ₀ p₀ : Float) (shape : shape_refusal m ≡ Ok tt) wher
       is = omega arith
 
       -- an admitted entry is kept
-      kept : (r : Params) (t : List Step) → ends (with_fit_of m (fit_after m.len (five_of m.moments) f r)) (k + 1) (Some (Admitted r)) t ≡ ends (with_fit_of m f) k o (Admitted r ∷ t)
-      kept r t = ap (λ x. record { state = keep_all x t; outcome = (ends (with_fit_of m f) k o (Admitted r ∷ t)).outcome }) (sym (keeps m f r))
+      kept : (r : Params) (t : List Step) → ends (with_fit m (fit_after m.len (five_of m.moments) f r)) (k + 1) (Some (Admitted r)) t ≡ ends (with_fit m f) k o (Admitted r ∷ t)
+      kept r t = ap (λ x. record { state = keep_all x t; outcome = (ends (with_fit m f) k o (Admitted r ∷ t)).outcome }) (sym (keeps m f r))
 
       admitted : (r : Params) (b : Bool) → step μ p ≡ Admitted r → settled m.epsilon p r.p_1 ≡ b → ((g : Fit) (ν q : Float) (s : Option Step) → Ends n g (k + 1) ν q s)
-          → outcome_of (left_of w m.max_iter f k μ p) ≡ ends (with_fit_of m f) k o (Admitted r ∷ cond b [] (trail_from step m.epsilon n r.mu_2 r.p_1))
+          → outcome_of (left_of w m.max_iter f k μ p) ≡ ends (with_fit m f) k o (Admitted r ∷ cond b [] (trail_from step m.epsilon n r.mu_2 r.p_1))
       admitted r true e s rest =
           let g = fit_after m.len (five_of m.moments) f r in
           ap outcome_of (settles w m.max_iter m.max_iter shape (omega arith) is f k μ p r (omega arith) e s) ∙ answers g (k + 1) r.mu_2 r.p_1 (Some Settled) ∙ kept r []
@@ -86,8 +87,8 @@ module _ (m : M2N) (μ₀ p₀ : Float) (shape : shape_refusal m ≡ Ok tt) wher
       by : (s : Step) → step μ p ≡ s → ((g : Fit) (ν q : Float) (s : Option Step) → Ends n g (k + 1) ν q s) → Ends (suc n) f k μ p o
       by Inadmissible e rest =
           ap outcome_of (turned_away w m.max_iter m.max_iter shape (omega arith) is f k μ p (omega arith) e)
-          ∙ answers f (k + 1) μ p (Some reason.Inadmissible) ∙ ap (ends (with_fit_of m f) k o) (sym (out step m.epsilon n μ p e))
-      by (Admitted r) e rest = admitted r (settled m.epsilon p r.p_1) e refl rest ∙ ap (ends (with_fit_of m f) k o) (sym (on step m.epsilon n μ p r e))
+          ∙ answers f (k + 1) μ p (Some reason.Inadmissible) ∙ ap (ends (with_fit m f) k o) (sym (out step m.epsilon n μ p e))
+      by (Admitted r) e rest = admitted r (settled m.epsilon p r.p_1) e refl rest ∙ ap (ends (with_fit m f) k o) (sym (on step m.epsilon n μ p r e))
 
 pub whole : WholeInPieces
 unfolding walk_of begun trail_of

@@ -7,7 +7,8 @@ use Rattle.moments.specs.declared.Params.{Params}
 use Rattle.refusal.specs.Numbers.{unless_refused}
 use Rattle.refusal.specs.declared.Refusal.{Refusal}
 use Rattle.walk.specs.Variants.{variant_at}
-use Rattle.walk.specs.Walk.{Visit, reason_at, shape_refusal, smaller, squares, with_fit}
+pub use Rattle.walk.specs.Walk.{fit_part}
+use Rattle.walk.specs.Walk.{Visit, best_of, fit_with, reason_at, shape_refusal, smaller, squares, with_fit}
 use Rattle.walk.specs.declared.M2N.{M2N}
 use Rattle.walk.specs.declared.Ended.{Ended}
 use Rattle.walk.specs.declared.Fit.{Fit}
@@ -17,16 +18,6 @@ use Rattle.walk.specs.declared.Turn.{Turn}
 use Rattle.walk.specs.declared.Variant.{Variant}
 use Rattle.walk.specs.declared.Walking.{Walking}
 
--- the fit part of a state
-abbrev pub fit_part : M2N → Fit
-fit_part m = record { new_moments = m.new_moments; parameters = m.parameters; error = m.error }
-
-abbrev pub fit_with : Five → Visit → Fit
-fit_with n v = record { new_moments = n; parameters = v.parameters; error = v.error }
-
-abbrev pub best_of_fit : Fit → Visit
-best_of_fit f = record { parameters = f.parameters; error = f.error }
-
 -- an iterate, for target moments a of which len are given
 abbrev pub visit_at : ℕ → Five → Params → Visit
 visit_at len a r = record { parameters = r; error = squares (listed a) (listed (get_moments r)) (min len 5) }
@@ -34,11 +25,7 @@ visit_at len a r = record { parameters = r; error = squares (listed a) (listed (
 -- the fit after an admitted iterate
 unfoldable pub fit_after : ℕ → Five → Fit → Params → Fit
 unfolding squares
-fit_after len a f r = fit_with (get_moments r) (smaller (best_of_fit f) (visit_at len a r))
-
--- the state with a fit
-abbrev pub with_fit_of : M2N → Fit → M2N
-with_fit_of m f = with_fit m f.new_moments f.parameters f.error
+fit_after len a f r = fit_with (get_moments r) (smaller (best_of f) (visit_at len a r))
 
 -- the state's variant, unless its walk is refused for the state
 abbrev pub shape_variant : M2N → Result Variant Refusal
@@ -50,7 +37,7 @@ ended_after count limit stopped = record { count = count; reason = reason_at cou
 
 -- a walk k steps on, at a fit and a pair
 abbrev pub steps_on : Walking → Fit → ℕ → Float → Float → Option Reason → Walking
-steps_on w f k μ p stopped = record { state = with_fit_of w.state f; mu_2 = μ; p_1 = p; count = w.count + k; stopped = stopped }
+steps_on w f k μ p stopped = record { state = with_fit w.state f; mu_2 = μ; p_1 = p; count = w.count + k; stopped = stopped }
 
 -- one turn of the walk's count: as it was; or with another pair to look out for; or, where the pair is the one looked out for, with whole rounds counted
 pub data Turned (count limit : ℕ) (μ p : Float) (seen : Seen) (r : Turn) : Type 0 where

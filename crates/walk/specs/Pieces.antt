@@ -7,7 +7,7 @@ use Rattle.walk.specs.Machine.{begun, over, advanced, outcome_of}
 use Rattle.walk.specs.Trail.{Arguments, settled, trail}
 use Rattle.walk.specs.Visits.{visited}
 use Rattle.walk.specs.Walk.{Walked, trail_of, walk_of}
-use Rattle.walk.specs.Parts.{fit_part, with_fit_of}
+use Rattle.walk.specs.Walk.{fit_part, with_fit}
 use Rattle.walk.specs.declared.Fit.{Fit}
 use Rattle.walk.specs.declared.M2N.{M2N}
 use Rattle.walk.specs.declared.Walking.{Walking}
@@ -30,7 +30,7 @@ CountsSteps = (n : ℕ) (w : Walking) → over (advanced n w) ≡ false → (adv
 
 -- of the state only the fit changes
 abbrev pub OnlyFitChanges : Type 0
-OnlyFitChanges = (n : ℕ) (w : Walking) → (advanced n w).state ≡ with_fit_of w.state (fit_part (advanced n w).state)
+OnlyFitChanges = (n : ℕ) (w : Walking) → (advanced n w).state ≡ with_fit w.state (fit_part (advanced n w).state)
 
 -- begun, and gone on with for its limit
 abbrev pub in_pieces : M2N → Result Walking Refusal → Walked
@@ -44,7 +44,7 @@ WholeInPieces = (m : M2N) (μ p : Float) → walk_of m μ p ≡ in_pieces m (beg
 -- the kept parameters, moments and error never steer a walk: with any other, the trail, what is visited and the outcome are the same
 abbrev pub FitNeverSteers : Type 0
 FitNeverSteers = (m : M2N) (f : Fit) (μ p : Float)
-    → (trail_of (with_fit_of m f) μ p ≡ trail_of m μ p) × (visited (with_fit_of m f) μ p ≡ visited m μ p) × ((walk_of (with_fit_of m f) μ p).outcome ≡ (walk_of m μ p).outcome)
+    → (trail_of (with_fit m f) μ p ≡ trail_of m μ p) × (visited (with_fit m f) μ p ≡ visited m μ p) × ((walk_of (with_fit m f) μ p).outcome ≡ (walk_of m μ p).outcome)
 
 -- ---- a trail in pieces
 -- where a trail stands after its entries, if it goes on: with the last one's mu_2 and p_1 as its pair

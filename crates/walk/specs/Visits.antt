@@ -5,7 +5,7 @@ use Rattle.std.specs.List.{fold}
 use Rattle.moments.specs.Mixture.{get_moments}
 use Rattle.step.specs.declared.Step.{Step}
 use Rattle.step.specs.declared.Step.TheVariants.{Admitted, Inadmissible}
-use Rattle.walk.specs.Walk.{Visit, best_of, error_of, keep_all, smaller, trail_of}
+use Rattle.walk.specs.Walk.{Visit, best_of, error_of, fit_part, keep_all, smaller, trail_of}
 use Rattle.walk.specs.declared.M2N.{M2N}
 
 -- the admitted entries of a trail in order, with their errors at a state's moments
@@ -20,7 +20,7 @@ visited m μ p = visits m (trail_of m μ p)
 
 -- what is kept of a trail is the smallest of what was kept before and what is visited, one after another
 abbrev pub KeepsTheSmallest : Type 0
-KeepsTheSmallest = (m : M2N) (t : List Step) → best_of (keep_all m t) ≡ fold smaller (best_of m) (visits m t)
+KeepsTheSmallest = (m : M2N) (t : List Step) → best_of (fit_part (keep_all m t)) ≡ fold smaller (best_of (fit_part m)) (visits m t)
 
 -- none of the errors is below e
 abbrev pub NoneBelow : Float → List Visit → Type 0

@@ -16,6 +16,7 @@ use Rattle.step.specs.declared.Step.{Step}
 use Rattle.step.specs.declared.Step.TheVariants.{Admitted, Inadmissible}
 use Rattle.walk.specs.Trail.{Arguments, trail, trail_from}
 use Rattle.walk.specs.Variants.{is_variant}
+use Rattle.walk.specs.declared.Fit.{Fit}
 use Rattle.walk.specs.declared.M2N.{M2N}
 use Rattle.walk.specs.declared.Reason.{Reason}
 use Rattle.walk.specs.declared.Reason.TheVariants as reason
@@ -37,20 +38,12 @@ unfoldable pub error_of : M2N → Five → Float
 unfolding squares
 error_of m n = squares m.moments (listed n) (min m.len 5)
 
--- the state with other moments stored and another best fit
-abbrev pub with_fit : M2N → Five → Params → Float → M2N
-with_fit m n r e = record {
-  moments = m.moments;
-  len = m.len;
-  epsilon = m.epsilon;
-  factor = m.factor;
-  n_runs = m.n_runs;
-  variant = m.variant;
-  max_iter = m.max_iter;
-  new_moments = n;
-  parameters = r;
-  error = e;
-}
+-- the fit part of a state, and the state with another
+abbrev pub fit_part : M2N → Fit
+fit_part m = record { new_moments = m.new_moments; parameters = m.parameters; error = m.error }
+
+abbrev pub with_fit : M2N → Fit → M2N
+with_fit m f = record m { new_moments = f.new_moments; parameters = f.parameters; error = f.error }
 
 -- parameters, and their step error
 pub record Visit : Type 0 where
@@ -61,19 +54,18 @@ pub record Visit : Type 0 where
 abbrev pub smaller : Visit → Visit → Visit
 smaller v w = cond (lt w.error v.error) w v
 
--- the best that a state has
-abbrev pub best_of : M2N → Visit
-best_of m = record { parameters = m.parameters; error = m.error }
+-- the best that a fit has; and a fit with moments stored and this as its best
+abbrev pub best_of : Fit → Visit
+best_of f = record { parameters = f.parameters; error = f.error }
 
--- the state with these moments stored and this as its best
-abbrev pub with_best : M2N → Five → Visit → M2N
-with_best m n v = with_fit m n v.parameters v.error
+abbrev pub fit_with : Five → Visit → Fit
+fit_with n v = record { new_moments = n; parameters = v.parameters; error = v.error }
 
 -- an admitted iterate: its moments are stored, and it is kept where its error is strictly smaller
 unfoldable pub keep_of : M2N → Step → M2N
 unfolding error_of
 keep_of m Inadmissible = m
-keep_of m (Admitted r) = let n = get_moments r in with_best m n (smaller (best_of m) (record { parameters = r; error = error_of m n }))
+keep_of m (Admitted r) = let n = get_moments r in with_fit m (fit_with n (smaller (best_of (fit_part m)) (record { parameters = r; error = error_of m n })))
 
 -- the entries of a trail one after another
 unfoldable pub keep_all : M2N → List Step → M2N

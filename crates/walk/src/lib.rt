@@ -5,7 +5,8 @@
 ghost use Rattle.std.specs.Prelude.{◌≡◌, true, false, ◌+◌, ◌≤◌, ◌<◌, min};
 ghost use Rattle.moments.specs.Lists.{five_of, listed};
 ghost use Rattle.walk.specs.Machine.{advanced, at_end, begun, outcome_of, over};
-ghost use Rattle.walk.specs.Parts.{Turned, ended_after, fit_after, fit_part, shape_variant, steps_on, with_fit_of};
+ghost use Rattle.walk.specs.Parts.{Turned, ended_after, fit_after, shape_variant, steps_on};
+ghost use Rattle.walk.specs.Walk.{fit_part, with_fit};
 ghost use Rattle.walk.specs.Reasons.{number_of};
 ghost use Rattle.walk.specs.Squares.{squares_summed};
 ghost use Rattle.walk.specs.Trail.{step_for};
@@ -216,7 +217,7 @@ fn fit_after(len: usize, a: Five, f: Fit, r: Params) -> Fit
 }
 
 fn with_fit(m: M2N, f: Fit) -> M2N
-    ensures { result ≡ with_fit_of m f }
+    ensures { result ≡ with_fit m f }
 {
     let Fit {
         new_moments,
