@@ -326,8 +326,8 @@ fn at_end(w: Walking) -> bool
     w.stopped.is_some() || w.state.max_iter <= w.count
 }
 
-// Whether a walk takes no more steps. So it is with a state that no walk begins with, since a step could
-// not be taken: a `Walking` may be made by hand.
+// Whether a walk takes no more steps. A `Walking` can be made by hand, of a state that no walk begins with:
+// that is over too, since a step reads a variant and as many moments as that needs.
 #[tactic(auto, unfolding(crate::specs::Machine::over))]
 pub fn is_over(w: Walking) -> bool
     ensures { result ≡ over w }
@@ -356,7 +356,7 @@ fn steps_on(
 }
 
 // Steps of a walk that is not over. A turn may count whole rounds, so the loop is no `for` over its
-// turns; the count is the piece's own, so that a piece finds rounds as a whole walk does.
+// turns. The count is the piece's own, so a piece finds the rounds that a whole walk as long would find.
 fn go_on(w: Walking, variant: Variant, n: usize) -> Walking
     requires its_variant { variant_number variant ≡ w.state.variant }
     requires going { over w ≡ false }
