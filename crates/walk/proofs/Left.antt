@@ -6,7 +6,6 @@ use native.Mathlib.Omega.{arith}
 use borrow.Author.Tests.{leb-true, leb-false, lt-leb, le-leb}
 use lib.Dec.{leb}
 use lib.Ieee.{Float}
-use Rattle.moments.specs.Lists.{five_of}
 use Rattle.moments.specs.declared.Params.{Params}
 use Rattle.refusal.proofs.Refusing.{refused}
 use Rattle.refusal.specs.declared.Refusal.{Refusal}
@@ -14,7 +13,7 @@ use Rattle.std.specs.Prelude.{Option, Some, None, Ok, Err}
 use Rattle.step.specs.declared.Step.{Step}
 use Rattle.step.specs.declared.Step.TheVariants.{Admitted, Inadmissible}
 use Rattle.walk.specs.Machine.{after, at_end, step_of, over, advanced}
-use Rattle.walk.specs.Parts.{fit_after, shape_variant, steps_on}
+use Rattle.walk.specs.Parts.{shape_variant, steps_on}
 use Rattle.walk.specs.Walk.{fit_part}
 use Rattle.walk.specs.Trail.{settled, step_for}
 use Rattle.walk.specs.Variants.{variant_at}
@@ -26,7 +25,7 @@ use Rattle.walk.specs.declared.Reason.TheVariants.{Settled}
 use Rattle.walk.specs.declared.Variant.{Variant}
 use Rattle.walk.specs.declared.Walking.{Walking}
 use Rattle.walk.proofs.Pieces.{none_on, one_on, over_is, over_stays, same_shape, either}
-use Rattle.walk.proofs.Trails.{keeps, has_shape}
+use Rattle.walk.proofs.Trails.{fit_next, keeps, has_shape}
 
 abbrev pub left_of : Walking → ℕ → Fit → ℕ → Float → Float → Walking
 left_of w n f k μ p = advanced (n - k) (steps_on w f k μ p None)
@@ -54,11 +53,11 @@ module _ (w : Walking) (n to : ℕ) (shape : shape_refusal w.state ≡ Ok tt) (r
   counted f k μ p o = ap (λ c. record (steps_on w f k μ p o) { count = c }) (omega arith)
 
   admitted : (f : Fit) (k : ℕ) (μ p : Float) (r : Params) (b : Bool) → settled w.state.epsilon p r.p_1 ≡ b
-      → after (steps_on w f k μ p None) (Admitted r) ≡ steps_on w (fit_after w.state.len (five_of w.state.moments) f r) (k + 1) r.mu_2 r.p_1 (cond b (Some Settled) None)
-  admitted f k μ p r b h = rw (keeps w.state f r, h) (counted (fit_after w.state.len (five_of w.state.moments) f r) k r.mu_2 r.p_1 (cond b (Some Settled) None))
+      → after (steps_on w f k μ p None) (Admitted r) ≡ steps_on w (fit_next w.state f r) (k + 1) r.mu_2 r.p_1 (cond b (Some Settled) None)
+  admitted f k μ p r b h = rw (keeps w.state f r, h) (counted (fit_next w.state f r) k r.mu_2 r.p_1 (cond b (Some Settled) None))
 
   pub goes_on : (f : Fit) (k : ℕ) (μ p : Float) (r : Params) → k < to → step_for w.state.variant w.state.moments μ p ≡ Admitted r → settled w.state.epsilon p r.p_1 ≡ false
-      → left_of w n f k μ p ≡ left_of w n (fit_after w.state.len (five_of w.state.moments) f r) (k + 1) r.mu_2 r.p_1
+      → left_of w n f k μ p ≡ left_of w n (fit_next w.state f r) (k + 1) r.mu_2 r.p_1
   goes_on f k μ p r l e h = one f k μ p (Admitted r) l e ∙ ap (advanced (n - (k + 1))) (admitted f k μ p r false h)
 
   -- ---- what the code returns
@@ -69,10 +68,9 @@ module _ (w : Walking) (n to : ℕ) (shape : shape_refusal w.state ≡ Ok tt) (r
   turned_away f k μ p l e = one f k μ p Inadmissible l e ∙ ap (advanced (n - (k + 1))) (counted f k μ p (Some reason.Inadmissible)) ∙ stops f (k + 1) μ p reason.Inadmissible
 
   pub settles : (f : Fit) (k : ℕ) (μ p : Float) (r : Params) → k < to → step_for w.state.variant w.state.moments μ p ≡ Admitted r → settled w.state.epsilon p r.p_1 ≡ true
-      → left_of w n f k μ p ≡ steps_on w (fit_after w.state.len (five_of w.state.moments) f r) (k + 1) r.mu_2 r.p_1 (Some Settled)
+      → left_of w n f k μ p ≡ steps_on w (fit_next w.state f r) (k + 1) r.mu_2 r.p_1 (Some Settled)
   settles f k μ p r l e h =
-      let f' = fit_after w.state.len (five_of w.state.moments) f r in
-      one f k μ p (Admitted r) l e ∙ ap (advanced (n - (k + 1))) (admitted f k μ p r true h) ∙ stops f' (k + 1) r.mu_2 r.p_1 Settled
+      one f k μ p (Admitted r) l e ∙ ap (advanced (n - (k + 1))) (admitted f k μ p r true h) ∙ stops (fit_next w.state f r) (k + 1) r.mu_2 r.p_1 Settled
 
   pub spent : (f : Fit) (μ p : Float) → left_of w n f to μ p ≡ steps_on w f to μ p None
   spent f μ p =

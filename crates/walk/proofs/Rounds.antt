@@ -10,52 +10,50 @@ use lib.Dec.{T}
 use lib.Ieee.{Float, nan, inf, fin, eq, is_nan, fits, binary64, to_bits, of_bits}
 use lib.Ieee.Bits.{of_bits-to_bits}
 use Rattle.std.specs.List.{fold}
+use Rattle.std.proofs.lemmas.List.Sums.{fold-append}
 use Rattle.moments.specs.Lists.{five_of}
 use Rattle.moments.specs.Mixture.{get_moments}
 use Rattle.moments.specs.declared.Five.{Five}
 use Rattle.moments.specs.declared.Params.{Params}
 use Rattle.step.specs.declared.Step.TheVariants.{Admitted}
 use Rattle.walk.specs.Parts.{fit_after, visit_at, Turned, stays, looks, rounds_on}
-use Rattle.walk.specs.Walk.{best_of, fit_with}
 use Rattle.walk.specs.Trail.{settled, step_for}
-use Rattle.walk.specs.Walk.{smaller}
+use Rattle.walk.specs.Walk.{Visit, best_of, fit_with, smaller}
 use Rattle.walk.specs.declared.Fit.{Fit}
 use Rattle.walk.specs.declared.M2N.{M2N}
 use Rattle.walk.specs.declared.Seen.{Seen}
 use Rattle.walk.specs.declared.Turn.{Turn}
+use Rattle.walk.proofs.Trails.{fit_next}
 use Rattle.walk.proofs.Visits.{smallest_again}
 
 -- ---- the fit after several iterates
-abbrev fit_over : ℕ → Five → Fit → List Params → Fit
-fit_over len a f [] = f
-fit_over len a f (r ∷ t) = fit_over len a (fit_after len a f r) t
-
-over_snoc : (len : ℕ) (a : Five) (f : Fit) (t : List Params) (r : Params) → fit_over len a f (t ++ (r ∷ [])) ≡ fit_after len a (fit_over len a f t) r
-over_snoc len a f [] r = refl
-over_snoc len a f (q ∷ t) r = over_snoc len a (fit_after len a f q) t r
+abbrev over : M2N → Fit → List Params → Fit
+over m f t = fold (fit_next m) f t
 
 -- it has the moments of the last, and as its best the smallest
 abbrev last_moments : Five → List Params → Five
 last_moments n [] = n
 last_moments n (r ∷ t) = last_moments (get_moments r) t
 
-over_is : (len : ℕ) (a : Five) (f : Fit) (t : List Params) → fit_over len a f t ≡ fit_with (last_moments f.new_moments t) (fold smaller (best_of f) (map (visit_at len a) t))
+abbrev errors : M2N → List Params → List Visit
+errors m t = map (visit_at m.len (five_of m.moments)) t
+
+over_is : (m : M2N) (f : Fit) (t : List Params) → over m f t ≡ fit_with (last_moments f.new_moments t) (fold smaller (best_of f) (errors m t))
 unfolding fit_after
-over_is len a f [] = refl
-over_is len a f (r ∷ t) = over_is len a (fit_after len a f r) t
+over_is m f [] = refl
+over_is m f (r ∷ t) = over_is m (fit_next m f r) t
 
 last_again : (n : Five) (t : List Params) → last_moments (last_moments n t) t ≡ last_moments n t
 last_again n [] = refl
 last_again n (r ∷ t) = refl
 
 -- so the same iterates again change nothing
-round_again : (len : ℕ) (a : Five) (f : Fit) (t : List Params) → fit_over len a (fit_over len a f t) t ≡ fit_over len a f t
-round_again len a f t =
-    let l = map (visit_at len a) t in
-    over_is len a (fit_over len a f t) t
-    ∙ ap (λ g. fit_with (last_moments g.new_moments t) (fold smaller (best_of g) l)) (over_is len a f t)
-    ∙ ap₂ fit_with (last_again f.new_moments t) (smallest_again (best_of f) l)
-    ∙ sym (over_is len a f t)
+pub round_again : (m : M2N) (f : Fit) (t : List Params) → over m (over m f t) t ≡ over m f t
+round_again m f t =
+    over_is m (over m f t) t
+    ∙ ap (λ g. fit_with (last_moments g.new_moments t) (fold smaller (best_of g) (errors m t))) (over_is m f t)
+    ∙ ap₂ fit_with (last_again f.new_moments t) (smallest_again (best_of f) (errors m t))
+    ∙ sym (over_is m f t)
 
 -- ---- steps that lead from a pair to another: admitted, and none settled
 abbrev Leads : M2N → Float → Float → List Params → Float → Float → Type 0
@@ -65,10 +63,6 @@ Leads m μ p (r ∷ t) μ' p' = (step_for m.variant m.moments μ p ≡ Admitted 
 leads_snoc : (m : M2N) (μ p : Float) (t : List Params) (μ' p' : Float) (r : Params) → Leads m μ p t μ' p' → step_for m.variant m.moments μ' p' ≡ Admitted r → settled m.epsilon p' r.p_1 ≡ false → Leads m μ p (t ++ (r ∷ [])) r.mu_2 r.p_1
 leads_snoc m μ p [] μ' p' r h e s = (ap (λ x. step_for m.variant m.moments x p) h.0 ∙ ap (λ x. step_for m.variant m.moments μ' x) h.1 ∙ e, ap (λ x. settled m.epsilon x r.p_1) h.1 ∙ s, (refl, refl))
 leads_snoc m μ p (q ∷ t) μ' p' r h e s = (h.0, h.1, leads_snoc m q.mu_2 q.p_1 t μ' p' r h.2 e s)
-
--- the fit over the state's own moments
-abbrev over : M2N → Fit → List Params → Fit
-over m f t = fit_over m.len (five_of m.moments) f t
 
 -- ---- what the loop knows: iterates lead from the pair looked out for to the present one, and the fit has them
 pub record Since (m : M2N) (seen : Seen) (f : Fit) (count : ℕ) (μ p : Float) : Type 0 where
@@ -81,22 +75,22 @@ pub record Since (m : M2N) (seen : Seen) (f : Fit) (count : ℕ) (μ p : Float) 
 pub since_now : (m : M2N) (f : Fit) (count : ℕ) (μ p : Float) → Since m (record { mu = μ; p = p; at = count }) f count μ p
 since_now m f count μ p = record { trail = []; before = f; leads = (refl, refl); kept = refl; counted = omega arith }
 
-pub since_on : (m : M2N) (seen : Seen) (f g : Fit) (count : ℕ) (μ p : Float) (r : Params) → Since m seen f count μ p → step_for m.variant m.moments μ p ≡ Admitted r → g ≡ fit_after m.len (five_of m.moments) f r → settled m.epsilon p r.p_1 ≡ false → Since m seen g (count + 1) r.mu_2 r.p_1
+pub since_on : (m : M2N) (seen : Seen) (f g : Fit) (count : ℕ) (μ p : Float) (r : Params) → Since m seen f count μ p → step_for m.variant m.moments μ p ≡ Admitted r → g ≡ fit_next m f r → settled m.epsilon p r.p_1 ≡ false → Since m seen g (count + 1) r.mu_2 r.p_1
 since_on m seen f g count μ p r s e hg h = record {
   trail = s.trail ++ (r ∷ []);
   before = s.before;
   leads = leads_snoc m seen.mu seen.p s.trail μ p r s.leads e h;
-  kept = hg ∙ ap (λ x. fit_after m.len (five_of m.moments) x r) s.kept ∙ sym (over_snoc m.len (five_of m.moments) s.before s.trail r);
+  kept = hg ∙ ap (λ x. fit_next m x r) s.kept ∙ sym (fold-append (fit_next m) s.before s.trail (r ∷ []));
   counted = omega (arith, s.counted, length-append s.trail (r ∷ []));
 }
 
 -- ---- what is left of a piece of at most `to` steps: one step on changes nothing of it
 module _ (m : M2N) {A : Type 0} (left : Fit → ℕ → Float → Float → A) (to : ℕ)
-    (goes_on : (f : Fit) (k : ℕ) (μ p : Float) (r : Params) → k < to → step_for m.variant m.moments μ p ≡ Admitted r → settled m.epsilon p r.p_1 ≡ false → left f k μ p ≡ left (fit_after m.len (five_of m.moments) f r) (k + 1) r.mu_2 r.p_1) where
+    (goes_on : (f : Fit) (k : ℕ) (μ p : Float) (r : Params) → k < to → step_for m.variant m.moments μ p ≡ Admitted r → settled m.epsilon p r.p_1 ≡ false → left f k μ p ≡ left (fit_next m f r) (k + 1) r.mu_2 r.p_1) where
   walked : (f : Fit) (k : ℕ) (μ p : Float) (t : List Params) (μ' p' : Float) → Leads m μ p t μ' p' → k + length t ≤ to → left f k μ p ≡ left (over m f t) (k + length t) μ' p'
   walked f k μ p [] μ' p' h l = ap (λ x. left f k x p) h.0 ∙ ap (λ x. left f k μ' x) h.1 ∙ ap (λ n. left f n μ' p') (omega arith)
   walked f k μ p (r ∷ t) μ' p' h l =
-      let g = fit_after m.len (five_of m.moments) f r in
+      let g = fit_next m f r in
       goes_on f k μ p r (omega (arith, l)) h.0 h.1
       ∙ walked g (k + 1) r.mu_2 r.p_1 t μ' p' h.2 (omega (arith, l))
       ∙ ap (λ n. left (over m g t) n μ' p') (omega arith)
@@ -133,7 +127,7 @@ module _ (m : M2N) {A : Type 0} (left : Fit → ℕ → Float → Float → A) (
       back = subst (λ x. Leads m x p s.trail μ p) (sym hμ) (subst (λ x. Leads m seen.mu x s.trail μ p) (sym hp) s.leads)
 
       same_fit : over m f s.trail ≡ f
-      same_fit = ap (λ g. over m g s.trail) s.kept ∙ round_again m.len (five_of m.moments) s.before s.trail ∙ sym s.kept
+      same_fit = ap (λ g. over m g s.trail) s.kept ∙ round_again m s.before s.trail ∙ sym s.kept
 
 -- ---- the code's parts
 pub one_float : (x y : Float) → T (fits binary64 x) → T (fits binary64 y) → to_bits binary64 x ≡ to_bits binary64 y → x ≡ y

@@ -31,7 +31,11 @@ use Rattle.walk.specs.declared.Variant.{Variant}
 use Rattle.walk.specs.declared.Variant.TheVariants.{FourMoments, FiveMoments}
 
 -- ---- one entry
-pub keeps : (m : M2N) (f : Fit) (r : Params) → keep_of (with_fit m f) (Admitted r) ≡ with_fit m (fit_after m.len (five_of m.moments) f r)
+-- the fit after an admitted iterate, at a state's moments
+abbrev pub fit_next : M2N → Fit → Params → Fit
+fit_next m f r = fit_after m.len (five_of m.moments) f r
+
+pub keeps : (m : M2N) (f : Fit) (r : Params) → keep_of (with_fit m f) (Admitted r) ≡ with_fit m (fit_next m f r)
 unfolding keep_of fit_after
 keeps m f r = rw (error_is (with_fit m f) (get_moments r))
 
@@ -53,8 +57,8 @@ pub five_enough : (ms : List Float) (a : Five) (μ p : Float) → a ≡ five_of 
 unfolding sigma2_squared eval power_of
 five_enough ms a μ p ha = sym (ap (λ x. sigma2_squared (listed x) μ p) ha)
 
-pub fit_on : (len : ℕ) (ms : List Float) (a : Five) (f g : Fit) (r : Params) → a ≡ five_of ms → g ≡ fit_after len a f r → g ≡ fit_after len (five_of ms) f r
-fit_on len ms a f g r ha hg = hg ∙ ap (λ x. fit_after len x f r) ha
+pub fit_on : (m : M2N) (a : Five) (f g : Fit) (r : Params) → a ≡ five_of m.moments → g ≡ fit_after m.len a f r → g ≡ fit_next m f r
+fit_on m a f g r ha hg = hg ∙ ap (λ x. fit_after m.len x f r) ha
 
 pub settled_on : (ε p p' d : Float) (b : Bool) → d ≡ abs_of (sub binary64 p p') → lt d ε ≡ b → settled ε p p' ≡ b
 settled_on ε p p' d b hd hb = ap (λ x. lt x ε) (sym hd) ∙ hb

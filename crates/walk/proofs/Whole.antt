@@ -14,7 +14,7 @@ use Rattle.std.specs.Prelude.{Option, Some, None, Ok, Err}
 use Rattle.step.specs.declared.Step.{Step}
 use Rattle.step.specs.declared.Step.TheVariants.{Admitted, Inadmissible}
 use Rattle.walk.specs.Machine.{at_start, begun, outcome_of}
-use Rattle.walk.specs.Parts.{ended_after, fit_after, steps_on}
+use Rattle.walk.specs.Parts.{ended_after, steps_on}
 use Rattle.walk.specs.Walk.{fit_part, with_fit}
 use Rattle.walk.specs.Pieces.{in_pieces, WholeInPieces}
 use Rattle.walk.specs.Trail.{settled, step_for, trail_from}
@@ -26,10 +26,9 @@ use Rattle.walk.specs.declared.Reason.TheVariants as reason
 use Rattle.walk.specs.declared.Reason.TheVariants.{Settled, Spent}
 use Rattle.walk.specs.declared.Walking.{Walking}
 use Rattle.std.specs.Option.{unwrap_or}
-use Rattle.moments.specs.Lists.{five_of}
 use Rattle.walk.proofs.Left.{left_of, begins, goes_on, turned_away, settles, spent}
 use Rattle.walk.proofs.Pieces.{same_shape}
-use Rattle.walk.proofs.Trails.{keeps, out, on, shape_allowed}
+use Rattle.walk.proofs.Trails.{fit_next, keeps, out, on, shape_allowed}
 
 -- the entries of a trail counted one after another
 abbrev counted : ℕ → List Step → ℕ
@@ -72,17 +71,15 @@ module _ (m : M2N) (μ₀ p₀ : Float) (shape : shape_refusal m ≡ Ok tt) wher
       is = omega arith
 
       -- an admitted entry is kept
-      kept : (r : Params) (t : List Step) → ends (with_fit m (fit_after m.len (five_of m.moments) f r)) (k + 1) (Some (Admitted r)) t ≡ ends (with_fit m f) k o (Admitted r ∷ t)
+      kept : (r : Params) (t : List Step) → ends (with_fit m (fit_next m f r)) (k + 1) (Some (Admitted r)) t ≡ ends (with_fit m f) k o (Admitted r ∷ t)
       kept r t = ap (λ x. record { state = keep_all x t; outcome = (ends (with_fit m f) k o (Admitted r ∷ t)).outcome }) (sym (keeps m f r))
 
       admitted : (r : Params) (b : Bool) → step μ p ≡ Admitted r → settled m.epsilon p r.p_1 ≡ b → ((g : Fit) (ν q : Float) (s : Option Step) → Ends n g (k + 1) ν q s)
           → outcome_of (left_of w m.max_iter f k μ p) ≡ ends (with_fit m f) k o (Admitted r ∷ cond b [] (trail_from step m.epsilon n r.mu_2 r.p_1))
       admitted r true e s rest =
-          let g = fit_after m.len (five_of m.moments) f r in
-          ap outcome_of (settles w m.max_iter m.max_iter shape (omega arith) is f k μ p r (omega arith) e s) ∙ answers g (k + 1) r.mu_2 r.p_1 (Some Settled) ∙ kept r []
+          ap outcome_of (settles w m.max_iter m.max_iter shape (omega arith) is f k μ p r (omega arith) e s) ∙ answers (fit_next m f r) (k + 1) r.mu_2 r.p_1 (Some Settled) ∙ kept r []
       admitted r false e s rest =
-          let g = fit_after m.len (five_of m.moments) f r in
-          ap outcome_of (goes_on w m.max_iter m.max_iter shape (omega arith) is f k μ p r (omega arith) e s) ∙ rest g r.mu_2 r.p_1 (Some (Admitted r)) ∙ kept r (trail_from step m.epsilon n r.mu_2 r.p_1)
+          ap outcome_of (goes_on w m.max_iter m.max_iter shape (omega arith) is f k μ p r (omega arith) e s) ∙ rest (fit_next m f r) r.mu_2 r.p_1 (Some (Admitted r)) ∙ kept r (trail_from step m.epsilon n r.mu_2 r.p_1)
 
       by : (s : Step) → step μ p ≡ s → ((g : Fit) (ν q : Float) (s : Option Step) → Ends n g (k + 1) ν q s) → Ends (suc n) f k μ p o
       by Inadmissible e rest =

@@ -30,7 +30,7 @@ returns-then-settled c =
     let g = goes w c.requires.going in
     let a = c.first_five-a.ensures in
     let e = stepped_on w.state _ _ _ _ _ _ c.requires.its_variant a c.step-s.ensures c.in-Admitted.is in
-    let f = fit_on _ w.state.moments _ _ _ _ a c.fit_after-f.ensures in
+    let f = fit_on w.state _ _ _ _ a c.fit_after-f.ensures in
     let s = settled_on _ _ _ _ true c.abs.ensures c.if-settled.true in
     rw (c.steps_on-then-settled.ensures, f, c.loop-count.invariant.1, settles w c.args.n _ g.shape (omega (arith, g.below)) c.min-to.ensures _ _ _ _ _ c.loop-count-test.true e s)
 
@@ -44,7 +44,7 @@ loop-count-preserved c =
     let g = goes w c.requires.going in
     let a = c.first_five-a.ensures in
     let e = stepped_on w.state _ _ _ _ _ _ c.requires.its_variant a c.step-s.ensures c.in-Admitted.is in
-    let f = fit_on _ w.state.moments _ _ _ _ a c.fit_after-f.ensures in
+    let f = fit_on w.state _ _ _ _ a c.fit_after-f.ensures in
     let s = settled_on _ _ _ _ false c.abs.ensures c.if-settled.false in
     let on = goes_on w n c.min-to.result g.shape (omega (arith, g.below)) c.min-to.ensures in
     let t = turns w.state (left_of w n) c.min-to.result on _ _ _ _ _ _ (omega arith) (since_on w.state _ _ _ _ _ _ _ c.loop-count.invariant.2 e f s) c.count_rounds-t.ensures in
