@@ -27,8 +27,8 @@ use Rattle.walk.proofs.Trails.{fit_next}
 use Rattle.walk.proofs.Visits.{smallest_again}
 
 -- ---- the fit after several iterates
-abbrev over : M2N → Fit → List Params → Fit
-over m f t = fold (fit_next m) f t
+abbrev fit_over : M2N → Fit → List Params → Fit
+fit_over m f t = fold (fit_next m) f t
 
 -- it has the moments of the last, and as its best the smallest
 abbrev last_moments : Five → List Params → Five
@@ -38,22 +38,22 @@ last_moments n (r ∷ t) = last_moments (get_moments r) t
 abbrev errors : M2N → List Params → List Visit
 errors m t = map (visit_at m.len (five_of m.moments)) t
 
-over_is : (m : M2N) (f : Fit) (t : List Params) → over m f t ≡ fit_with (last_moments f.new_moments t) (fold smaller (best_of f) (errors m t))
+fit_over_is : (m : M2N) (f : Fit) (t : List Params) → fit_over m f t ≡ fit_with (last_moments f.new_moments t) (fold smaller (best_of f) (errors m t))
 unfolding fit_after
-over_is m f [] = refl
-over_is m f (r ∷ t) = over_is m (fit_next m f r) t
+fit_over_is m f [] = refl
+fit_over_is m f (r ∷ t) = fit_over_is m (fit_next m f r) t
 
 last_again : (n : Five) (t : List Params) → last_moments (last_moments n t) t ≡ last_moments n t
 last_again n [] = refl
 last_again n (r ∷ t) = refl
 
 -- so the same iterates again change nothing
-pub round_again : (m : M2N) (f : Fit) (t : List Params) → over m (over m f t) t ≡ over m f t
+pub round_again : (m : M2N) (f : Fit) (t : List Params) → fit_over m (fit_over m f t) t ≡ fit_over m f t
 round_again m f t =
-    over_is m (over m f t) t
-    ∙ ap (λ g. fit_with (last_moments g.new_moments t) (fold smaller (best_of g) (errors m t))) (over_is m f t)
+    fit_over_is m (fit_over m f t) t
+    ∙ ap (λ g. fit_with (last_moments g.new_moments t) (fold smaller (best_of g) (errors m t))) (fit_over_is m f t)
     ∙ ap₂ fit_with (last_again f.new_moments t) (smallest_again (best_of f) (errors m t))
-    ∙ sym (over_is m f t)
+    ∙ sym (fit_over_is m f t)
 
 -- ---- steps that lead from a pair to another: admitted, and none settled
 abbrev Leads : M2N → Float → Float → List Params → Float → Float → Type 0
@@ -69,7 +69,7 @@ pub record Since (m : M2N) (seen : Seen) (f : Fit) (count : ℕ) (μ p : Float) 
   pub trail : List Params
   pub before : Fit
   pub leads : Leads m seen.mu seen.p trail μ p
-  pub kept : f ≡ over m before trail
+  pub kept : f ≡ fit_over m before trail
   pub counted : count ≡ seen.at + length trail
 
 pub since_now : (m : M2N) (f : Fit) (count : ℕ) (μ p : Float) → Since m (record { mu = μ; p = p; at = count }) f count μ p
@@ -87,16 +87,16 @@ since_on m seen f g count μ p r s e hg h = record {
 -- ---- what is left of a piece of at most `to` steps: one step on changes nothing of it
 module _ (m : M2N) {A : Type 0} (left : Fit → ℕ → Float → Float → A) (to : ℕ)
     (goes_on : (f : Fit) (k : ℕ) (μ p : Float) (r : Params) → k < to → step_for m.variant m.moments μ p ≡ Admitted r → settled m.epsilon p r.p_1 ≡ false → left f k μ p ≡ left (fit_next m f r) (k + 1) r.mu_2 r.p_1) where
-  walked : (f : Fit) (k : ℕ) (μ p : Float) (t : List Params) (μ' p' : Float) → Leads m μ p t μ' p' → k + length t ≤ to → left f k μ p ≡ left (over m f t) (k + length t) μ' p'
+  walked : (f : Fit) (k : ℕ) (μ p : Float) (t : List Params) (μ' p' : Float) → Leads m μ p t μ' p' → k + length t ≤ to → left f k μ p ≡ left (fit_over m f t) (k + length t) μ' p'
   walked f k μ p [] μ' p' h l = ap (λ x. left f k x p) h.0 ∙ ap (λ x. left f k μ' x) h.1 ∙ ap (λ n. left f n μ' p') (omega arith)
   walked f k μ p (r ∷ t) μ' p' h l =
       let g = fit_next m f r in
       goes_on f k μ p r (omega (arith, l)) h.0 h.1
       ∙ walked g (k + 1) r.mu_2 r.p_1 t μ' p' h.2 (omega (arith, l))
-      ∙ ap (λ n. left (over m g t) n μ' p') (omega arith)
+      ∙ ap (λ n. left (fit_over m g t) n μ' p') (omega arith)
 
   -- n rounds
-  rounds : (f : Fit) (k : ℕ) (μ p : Float) (t : List Params) (n : ℕ) → Leads m μ p t μ p → over m f t ≡ f → k + n * length t ≤ to → left f k μ p ≡ left f (k + n * length t) μ p
+  rounds : (f : Fit) (k : ℕ) (μ p : Float) (t : List Params) (n : ℕ) → Leads m μ p t μ p → fit_over m f t ≡ f → k + n * length t ≤ to → left f k μ p ≡ left f (k + n * length t) μ p
   rounds f k μ p t zero h e l = ap (λ x. left f x μ p) (omega arith)
   rounds f k μ p t (suc n) h e l =
       walked f k μ p t μ p h (omega (arith, suc-mul n (length t), l))
@@ -126,8 +126,8 @@ module _ (m : M2N) {A : Type 0} (left : Fit → ℕ → Float → Float → A) (
       back : Leads m μ p s.trail μ p
       back = subst (λ x. Leads m x p s.trail μ p) (sym hμ) (subst (λ x. Leads m seen.mu x s.trail μ p) (sym hp) s.leads)
 
-      same_fit : over m f s.trail ≡ f
-      same_fit = ap (λ g. over m g s.trail) s.kept ∙ round_again m s.before s.trail ∙ sym s.kept
+      same_fit : fit_over m f s.trail ≡ f
+      same_fit = ap (λ g. fit_over m g s.trail) s.kept ∙ round_again m s.before s.trail ∙ sym s.kept
 
 -- ---- the code's parts
 pub one_float : (x y : Float) → T (fits binary64 x) → T (fits binary64 y) → to_bits binary64 x ≡ to_bits binary64 y → x ≡ y
