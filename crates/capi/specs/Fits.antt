@@ -3,12 +3,12 @@ use Rattle.std.specs.Prelude.{◌≡◌, List, [], ◌∷◌, ◌++◌, Bool, tr
 use Rattle.refusal.specs.Numbers.{status_of}
 use Rattle.refusal.specs.declared.Refusal.{Refusal}
 use Rattle.refusal.specs.declared.Refusal.TheVariants.{TooLittleRoom}
-use Rattle.walk.specs.declared.M2N.{M2N}
+use Rattle.fit_state.specs.declared.M2N.{M2N}
 use Rattle.fit_runs.specs.Runs.{flat_fit}
 use Rattle.fit_runs.specs.declared.Flat.{Flat}
 use Rattle.grid.specs.Search.{Fitted, single_fit}
-use Rattle.grid_rows.specs.FitResultRow.{six}
-use Rattle.grid_rows.specs.declared.FitResultRow.{FitResultRow}
+use Rattle.fit_state.specs.Rows.{six}
+use Rattle.fit_state.specs.declared.row.FitResultRow.{FitResultRow}
 use Rattle.capi_states.specs.States.{state_of, with_front, with_state}
 
 -- what came of one search, and of several runs

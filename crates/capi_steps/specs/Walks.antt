@@ -6,7 +6,7 @@ use Rattle.refusal.specs.declared.Refusal.TheVariants.{TooLittleRoom}
 use Rattle.walk.specs.Reasons.{number_of}
 use Rattle.walk.specs.Walk.{Walked, walk_of}
 use Rattle.walk.specs.declared.Ended.{Ended}
-use Rattle.walk.specs.declared.M2N.{M2N}
+use Rattle.fit_state.specs.declared.M2N.{M2N}
 use Rattle.capi_states.specs.States.{state_of, with_state}
 
 -- what stands in the lent places after: a refusal leaves them as they were

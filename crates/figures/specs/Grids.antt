@@ -14,13 +14,13 @@ use Rattle.moments.specs.Orders.{centred_sum}
 use Rattle.step.specs.Steps.{step_4, step_5}
 use Rattle.refusal.specs.Numbers.{status_of}
 use Rattle.walk.specs.Trail.{step_for}
-use Rattle.walk.specs.Squares.{sum_of_squares}
-use Rattle.walk.specs.Walk.{error_of, walk_of}
-use Rattle.walk.specs.declared.M2N.{M2N}
+use Rattle.fit_state.specs.Errors.{sum_of_squares, error_of}
+use Rattle.walk.specs.Walk.{walk_of}
+use Rattle.fit_state.specs.declared.M2N.{M2N}
 use Rattle.fit_refusals.specs.Refusals.{rows_of, grid_refusal}
-use Rattle.grid.specs.Rows.{begun, centred_state, moved_error}
-use Rattle.fit_runs.specs.Runs.{rows_in, flat_of}
-use Rattle.grid.specs.Search.{deviation_of, fit_of}
+use Rattle.fit_state.specs.Search.{begun, centred_state, moved_error, deviation_of}
+use Rattle.fit_state.specs.Rows.{rows_in, flat_of}
+use Rattle.grid.specs.Search.{fit_of}
 use Rattle.grid_rows.specs.Rows.{mean_of}
 
 -- M = (1, 4.5, 16, 81.5, 416), factor 1

@@ -3,7 +3,7 @@ use Rattle.std.specs.Prelude.{◌≡◌, false, ℕ, Ok}
 use Rattle.std.specs.Float.{nan, binary64}
 use Rattle.std.specs.Float.Ieee.{round}
 use Rattle.walk.specs.Walk.{Walked, walk_of}
-use Rattle.walk.specs.declared.M2N.{M2N}
+use Rattle.fit_state.specs.declared.M2N.{M2N}
 use Rattle.walk.specs.declared.Reason.TheVariants.{Settled, Spent}
 use Rattle.figures.specs.Figures.{◌·◌, params, five, listed, M}
 

@@ -12,7 +12,7 @@ use Rattle.float.proofs.Uppers.{upper_is}
 use Rattle.refusal.specs.Numbers.{Checked}
 use Rattle.refusal.specs.declared.Refusal.TheVariants.{TooFewMoments, TooManyMoments, UnknownVariant, BadEpsilon, TooManyRows, TooFewWeights, BadWeight}
 use Rattle.walk.specs.Walk.{is_weight}
-use Rattle.walk.specs.declared.M2N.{M2N}
+use Rattle.fit_state.specs.declared.M2N.{M2N}
 use Rattle.fit_refusals.specs.Refusals.{rows_of, all_weights, is_variant, is_spacing, grid_refusal}
 
 -- ---- rows

@@ -8,7 +8,7 @@ use Rattle.float.specs.Upper.{upper_of}
 use Rattle.refusal.specs.Numbers.{Checked}
 use Rattle.refusal.specs.declared.Refusal.TheVariants.{TooFewMoments, TooManyMoments, UnknownVariant, BadEpsilon, TooManyRows, TooFewWeights, BadWeight, TooLittleRoom, TooManyRuns}
 use Rattle.walk.specs.Walk.{is_weight}
-use Rattle.walk.specs.declared.M2N.{M2N}
+use Rattle.fit_state.specs.declared.M2N.{M2N}
 
 -- rows 1 to upper - 1
 unfoldable pub rows_of : Float → ℕ

@@ -6,8 +6,9 @@ ghost use Rattle.std.specs.List.{list_all};
 ghost use Rattle.fit_refusals.specs.Refusals.{grid_refusal, is_spacing, rows_of, rows_refusal, runs_refusal, weights_refusal};
 ghost use Rattle.walk.specs.Walk.{is_weight};
 
+use fit_state::M2N;
 use refusal::Refusal;
-use walk::{M2N, Variant};
+use walk::Variant;
 
 // Rows are 1 to upper - 1, upper being the larger of 1 / epsilon and 1, cut.
 #[tactic(auto, using(crate::proofs::Known::cut_upper), unfolding(crate::specs::Refusals::rows_of))]

@@ -1,6 +1,6 @@
 -- Several runs: what is known of those that are not refused, how many rows there are, and what is answered where they are refused. Assumes nothing.
 use mathlib.Core.Path.{◌≡◌, refl, sym, ap, ◌∙◌}
-use mathlib.Core.List.{List, []}
+use mathlib.Core.List.{List, [], ◌++◌, append-nil}
 use mathlib.Core.Bool.{Bool, true, false, cond}
 use Prim.Native.Nat.{ℕ, zero, suc, ◌+◌, ◌*◌, ◌-◌, ◌≤◌, ◌<◌}
 use native.Mathlib.Omega.{arith}
@@ -10,17 +10,18 @@ use lib.ListN.{length, take, drop, replicate, length-append}
 use lib.Ieee.{Float, binary64, of_bits}
 use borrow.Author.Tests.{eqb-true, ltb-false}
 use borrow.Author.Rules.{part_to_end}
-use Rattle.walk.specs.declared.M2N.{M2N}
+use Rattle.fit_state.specs.declared.M2N.{M2N}
 use Rattle.std.proofs.Common.{Option, Some, None, Result, Ok, Err}
 use Rattle.refusal.specs.Numbers.{Checked, unless_refused}
 use Rattle.refusal.specs.declared.Refusal.{Refusal}
 use Rattle.refusal.specs.declared.Refusal.TheVariants.{TooManyRuns, TooLittleRoom}
 use Rattle.fit_refusals.specs.Refusals.{rows_of, grid_refusal, first_of, runs_refusal}
-use Rattle.fit_runs.specs.Runs.{Runnable, rows_out, rows_to, unrefused, run_rows, mp_fit, flat_of, flat_in64, rows_at, put_in, all_runs, flat_fit}
+use Rattle.fit_runs.specs.Runs.{Runnable, rows_out, rows_to, unrefused, run_rows, mp_fit, put_in, all_runs, flat_fit}
+use Rattle.fit_state.specs.Rows.{flat_of, flat_in64, rows_at}
 use Rattle.grid.specs.Search.{Fitted, single_fit}
 use Rattle.fit_runs.specs.declared.Flat.{Flat}
-use Rattle.grid_rows.specs.declared.FitResultRow.{FitResultRow}
-use Rattle.fit_runs.proofs.Flats.{length_flat_64, put_flat, rows_back}
+use Rattle.fit_state.specs.declared.row.FitResultRow.{FitResultRow}
+use Rattle.fit_state.proofs.Flats.{length_flat_64, row_behind, rows_back}
 use Rattle.fit_refusals.proofs.Known.{grid_known}
 
 -- ---- what is known of several runs
@@ -68,6 +69,11 @@ pub room : (m : M2N) (ws : List Float) (k count : ℕ) (numbers : List Float) �
 room m ws k count numbers h hn hc =
     let f = few m ws k in
     rw (hn, hc, length_flat_64 (rows_to m ws k) (omega (arith, f, h))) (omega (arith, f, h))
+
+put_flat : (rows : List FitResultRow) (o : Result (Option FitResultRow) Refusal) → length rows < 64 → put_in (flat_in64 rows) (length rows) o ≡ flat_in64 (rows ++ rows_out o)
+put_flat rows (Err e) h = rw append-nil
+put_flat rows (Ok None) h = rw append-nil
+put_flat rows (Ok (Some r)) h = row_behind rows r h
 
 -- the turn of the loop
 pub turn : (m : M2N) (ws : List Float) (k rows count after : ℕ) (numbers l : List Float) (f : Fitted) → k < 64 → rows ≡ rows_of m.epsilon → f ≡ single_fit m None (take (length ws - k * rows) (drop (k * rows) ws))

@@ -20,7 +20,7 @@ use Rattle.step.specs.Steps.{step_4, step_5}
 use Rattle.scaling.specs.Scaling.{fair_walk, Compared}
 use Rattle.walk.specs.Trail.{step_for}
 use Rattle.walk.specs.Walk.{walk_refusal, walk_of}
-use Rattle.walk.specs.declared.M2N.{M2N}
+use Rattle.fit_state.specs.declared.M2N.{M2N}
 use Rattle.walk.specs.declared.Reason.TheVariants.{Spent}
 use Rattle.std.specs.Prelude.{Ok}
 use Rattle.scaling.proofs.WalkScale.{walks_scale}

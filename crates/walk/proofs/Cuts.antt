@@ -10,7 +10,7 @@ use Rattle.refusal.specs.Numbers.{Checked}
 use Rattle.std.specs.Prelude.{None, Ok, Err}
 use Rattle.step.specs.declared.Step.{Step}
 use Rattle.step.specs.declared.Step.TheVariants.{Admitted, Inadmissible}
-use Rattle.walk.specs.Walk.{with_fit}
+use Rattle.fit_state.specs.State.{with_fit}
 use Rattle.walk.specs.Pieces.{FitNeverSteers, stands_after, goes_on, TrailsAdd}
 use Rattle.walk.specs.Trail.{Arguments, settled, step_for, trail, trail_from}
 use Rattle.walk.specs.Walk.{keep_all, trail_of, walk_refusal, answered, walk_of}

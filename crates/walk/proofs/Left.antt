@@ -14,11 +14,11 @@ use Rattle.step.specs.declared.Step.{Step}
 use Rattle.step.specs.declared.Step.TheVariants.{Admitted, Inadmissible}
 use Rattle.walk.specs.Machine.{after, at_end, step_of, over, advanced}
 use Rattle.walk.specs.Parts.{shape_variant, steps_on}
-use Rattle.walk.specs.Walk.{fit_part}
+use Rattle.fit_state.specs.State.{fit_part}
 use Rattle.walk.specs.Trail.{settled, step_for}
 use Rattle.walk.specs.Variants.{variant_at}
 use Rattle.walk.specs.Walk.{shape_refusal}
-use Rattle.walk.specs.declared.Fit.{Fit}
+use Rattle.fit_state.specs.declared.Fit.{Fit}
 use Rattle.walk.specs.declared.Reason.{Reason}
 use Rattle.walk.specs.declared.Reason.TheVariants as reason
 use Rattle.walk.specs.declared.Reason.TheVariants.{Settled}

@@ -3,7 +3,6 @@ pub mod Left
 pub mod Pieces
 pub mod Rounds
 pub mod Stays
-pub mod Sums
 pub mod Trails
 pub mod Visits
 pub mod Whole

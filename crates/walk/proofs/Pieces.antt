@@ -10,12 +10,12 @@ use Rattle.std.specs.Prelude.{Option, Some, None, Ok, Err, is_some, is_err}
 use Rattle.step.specs.declared.Step.{Step}
 use Rattle.step.specs.declared.Step.TheVariants.{Admitted, Inadmissible}
 use Rattle.walk.specs.Machine.{after, at_end, step_of, over, advanced}
-use Rattle.walk.specs.Walk.{fit_part, with_fit}
+use Rattle.fit_state.specs.State.{fit_part, with_fit}
 use Rattle.walk.specs.Pieces.{PiecesAdd, OverStays, CountWithin, CountsSteps, OnlyFitChanges}
 use Rattle.walk.specs.Trail.{step_for}
 use Rattle.walk.specs.Walk.{keep_of, shape_refusal}
-use Rattle.walk.specs.declared.Fit.{Fit}
-use Rattle.walk.specs.declared.M2N.{M2N}
+use Rattle.fit_state.specs.declared.Fit.{Fit}
+use Rattle.fit_state.specs.declared.M2N.{M2N}
 use Rattle.walk.specs.declared.Reason.{Reason}
 use Rattle.walk.specs.declared.Walking.{Walking}
 use Rattle.walk.proofs.Stays.{keeps_apart}

@@ -19,8 +19,8 @@ use Rattle.step.specs.declared.Step.TheVariants.{Admitted}
 use Rattle.walk.specs.Parts.{fit_after, visit_at, Turned, stays, looks, rounds_on}
 use Rattle.walk.specs.Trail.{settled, step_for}
 use Rattle.walk.specs.Walk.{Visit, best_of, fit_with, smaller}
-use Rattle.walk.specs.declared.Fit.{Fit}
-use Rattle.walk.specs.declared.M2N.{M2N}
+use Rattle.fit_state.specs.declared.Fit.{Fit}
+use Rattle.fit_state.specs.declared.M2N.{M2N}
 use Rattle.walk.specs.declared.Seen.{Seen}
 use Rattle.walk.specs.declared.Turn.{Turn}
 use Rattle.walk.proofs.Trails.{fit_next}

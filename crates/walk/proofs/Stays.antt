@@ -14,9 +14,9 @@ use Rattle.step.specs.declared.Step.{Step}
 use Rattle.step.specs.declared.Step.TheVariants.{Admitted, Inadmissible}
 use Rattle.walk.specs.Trail.{step_for, trail_from}
 use Rattle.walk.specs.Walk.{keep_of, keep_all, trail_of, walk_refusal, answered, walk_of}
-use Rattle.walk.specs.Walk.{fit_part, with_fit}
-use Rattle.walk.specs.declared.Fit.{Fit}
-use Rattle.walk.specs.declared.M2N.{M2N}
+use Rattle.fit_state.specs.State.{fit_part, with_fit}
+use Rattle.fit_state.specs.declared.Fit.{Fit}
+use Rattle.fit_state.specs.declared.M2N.{M2N}
 use Rattle.walk.proofs.Trails.{out}
 
 -- ---- all but the fit

@@ -19,14 +19,14 @@ use Rattle.moments.specs.declared.Params.{Params}
 use Rattle.step.specs.Steps.{sigma2_squared}
 use Rattle.step.specs.declared.Step.{Step}
 use Rattle.step.specs.declared.Step.TheVariants.{Admitted, Inadmissible}
-use Rattle.walk.proofs.Sums.{error_is}
+use Rattle.fit_state.proofs.Sums.{error_is}
 use Rattle.walk.specs.Parts.{fit_after, shape_variant}
-use Rattle.walk.specs.Walk.{with_fit}
+use Rattle.fit_state.specs.State.{with_fit}
 use Rattle.walk.specs.Trail.{settled, step_for, trail_from}
 use Rattle.walk.specs.Variants.{is_variant, variant_at, variant_number}
 use Rattle.walk.specs.Walk.{needed_by, keep_of, walk_refusal, walk_rules, shape_refusal, shape_rules}
-use Rattle.walk.specs.declared.M2N.{M2N}
-use Rattle.walk.specs.declared.Fit.{Fit}
+use Rattle.fit_state.specs.declared.M2N.{M2N}
+use Rattle.fit_state.specs.declared.Fit.{Fit}
 use Rattle.walk.specs.declared.Variant.{Variant}
 use Rattle.walk.specs.declared.Variant.TheVariants.{FourMoments, FiveMoments}
 

@@ -8,11 +8,12 @@ use Rattle.std.specs.List.{fold}
 use Rattle.moments.specs.Mixture.{get_moments}
 use Rattle.step.specs.declared.Step.{Step}
 use Rattle.step.specs.declared.Step.TheVariants.{Admitted, Inadmissible}
-use Rattle.walk.specs.Walk.{best_of, fit_part, fit_with, with_fit}
-use Rattle.walk.specs.declared.Fit.{Fit}
+use Rattle.walk.specs.Walk.{best_of, fit_with, Visit, keep_of, keep_all, smaller}
+use Rattle.fit_state.specs.State.{fit_part, with_fit}
+use Rattle.fit_state.specs.declared.Fit.{Fit}
 use Rattle.walk.specs.Visits.{visits, NoneBelow, KeepsTheSmallest, KeepsTheLeast}
-use Rattle.walk.specs.Walk.{Visit, best_of, error_of, keep_of, keep_all, smaller}
-use Rattle.walk.specs.declared.M2N.{M2N}
+use Rattle.fit_state.specs.Errors.{error_of}
+use Rattle.fit_state.specs.declared.M2N.{M2N}
 
 -- ---- of two
 refutes : (b : Bool) → (b ≡ true → ⊥) → b ≡ false

@@ -15,12 +15,12 @@ use Rattle.step.specs.declared.Step.{Step}
 use Rattle.step.specs.declared.Step.TheVariants.{Admitted, Inadmissible}
 use Rattle.walk.specs.Machine.{at_start, begun, outcome_of}
 use Rattle.walk.specs.Parts.{ended_after, steps_on}
-use Rattle.walk.specs.Walk.{fit_part, with_fit}
+use Rattle.fit_state.specs.State.{fit_part, with_fit}
 use Rattle.walk.specs.Pieces.{in_pieces, WholeInPieces}
 use Rattle.walk.specs.Trail.{settled, step_for, trail_from}
 use Rattle.walk.specs.Walk.{Walked, keep_of, keep_all, stopped, stopped_at, trail_of, shape_refusal, walk_refusal, answered, walk_of}
-use Rattle.walk.specs.declared.Fit.{Fit}
-use Rattle.walk.specs.declared.M2N.{M2N}
+use Rattle.fit_state.specs.declared.Fit.{Fit}
+use Rattle.fit_state.specs.declared.M2N.{M2N}
 use Rattle.walk.specs.declared.Reason.{Reason}
 use Rattle.walk.specs.declared.Reason.TheVariants as reason
 use Rattle.walk.specs.declared.Reason.TheVariants.{Settled, Spent}

@@ -3,7 +3,6 @@ pub mod Limit
 pub mod Machine
 pub mod Pieces
 pub mod Reasons
-pub mod Squares
 pub mod Trail
 pub mod Variants
 pub mod Visits

@@ -8,7 +8,7 @@ use Rattle.step.specs.declared.Step.TheVariants.{Admitted, Inadmissible}
 use Rattle.walk.specs.Parts.{ended_after}
 use Rattle.walk.specs.Trail.{settled, step_for}
 use Rattle.walk.specs.Walk.{Walked, keep_of, shape_refusal, walk_refusal}
-use Rattle.walk.specs.declared.M2N.{M2N}
+use Rattle.fit_state.specs.declared.M2N.{M2N}
 use Rattle.walk.specs.declared.Reason.TheVariants as reason
 use Rattle.walk.specs.declared.Reason.TheVariants.{Spent, Settled}
 use Rattle.walk.specs.declared.Walking.{Walking}

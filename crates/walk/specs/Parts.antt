@@ -7,11 +7,12 @@ use Rattle.moments.specs.declared.Params.{Params}
 use Rattle.refusal.specs.Numbers.{unless_refused}
 use Rattle.refusal.specs.declared.Refusal.{Refusal}
 use Rattle.walk.specs.Variants.{variant_at}
-pub use Rattle.walk.specs.Walk.{fit_part}
-use Rattle.walk.specs.Walk.{Visit, best_of, fit_with, reason_at, shape_refusal, smaller, squares, with_fit}
-use Rattle.walk.specs.declared.M2N.{M2N}
+use Rattle.walk.specs.Walk.{Visit, best_of, fit_with, reason_at, shape_refusal, smaller}
+use Rattle.fit_state.specs.Errors.{squares}
+use Rattle.fit_state.specs.State.{with_fit}
+use Rattle.fit_state.specs.declared.M2N.{M2N}
 use Rattle.walk.specs.declared.Ended.{Ended}
-use Rattle.walk.specs.declared.Fit.{Fit}
+use Rattle.fit_state.specs.declared.Fit.{Fit}
 use Rattle.walk.specs.declared.Reason.{Reason}
 use Rattle.walk.specs.declared.Seen.{Seen}
 use Rattle.walk.specs.declared.Turn.{Turn}

@@ -7,9 +7,9 @@ use Rattle.walk.specs.Machine.{begun, over, advanced, outcome_of}
 use Rattle.walk.specs.Trail.{Arguments, settled, trail}
 use Rattle.walk.specs.Visits.{visited}
 use Rattle.walk.specs.Walk.{Walked, trail_of, walk_of}
-use Rattle.walk.specs.Walk.{fit_part, with_fit}
-use Rattle.walk.specs.declared.Fit.{Fit}
-use Rattle.walk.specs.declared.M2N.{M2N}
+use Rattle.fit_state.specs.State.{fit_part, with_fit}
+use Rattle.fit_state.specs.declared.Fit.{Fit}
+use Rattle.fit_state.specs.declared.M2N.{M2N}
 use Rattle.walk.specs.declared.Walking.{Walking}
 
 -- going on by a and then by b is going on by a + b

@@ -5,8 +5,10 @@ use Rattle.std.specs.List.{fold}
 use Rattle.moments.specs.Mixture.{get_moments}
 use Rattle.step.specs.declared.Step.{Step}
 use Rattle.step.specs.declared.Step.TheVariants.{Admitted, Inadmissible}
-use Rattle.walk.specs.Walk.{Visit, best_of, error_of, fit_part, keep_all, smaller, trail_of}
-use Rattle.walk.specs.declared.M2N.{M2N}
+use Rattle.walk.specs.Walk.{Visit, best_of, keep_all, smaller, trail_of}
+use Rattle.fit_state.specs.Errors.{error_of}
+use Rattle.fit_state.specs.State.{fit_part}
+use Rattle.fit_state.specs.declared.M2N.{M2N}
 
 -- the admitted entries of a trail in order, with their errors at a state's moments
 abbrev pub visits : M2N → List Step → List Visit

@@ -1,11 +1,9 @@
 -- What a walk answers: refused, or its trail's length, the reason, and the best of what was met. Definitions only.
-use Rattle.std.specs.Prelude.{List, [], ◌∷◌, ◌++◌, Bool, ◌&&◌, not, cond, ℕ, zero, suc, min, ltb, eqb, length, get_or, Float, Option, Some, None, Ok, Err}
-use Rattle.std.specs.Float.{nan, binary64}
+use Rattle.std.specs.Prelude.{List, [], ◌∷◌, ◌++◌, Bool, ◌&&◌, not, cond, ℕ, ltb, eqb, length, Float, Option, Some, None, Ok, Err}
 use Rattle.std.specs.List.{last_or}
-use Rattle.std.specs.Float.Ieee.{add, sub, mul, lt, le}
-use Rattle.float.specs.Constants.{nought, one, minus_nought}
+use Rattle.std.specs.Float.Ieee.{lt, le}
+use Rattle.float.specs.Constants.{nought, one}
 use Rattle.moments.specs.Mixture.{get_moments}
-use Rattle.moments.specs.Lists.{listed}
 pub use Rattle.moments.specs.Lists.{five_of}
 use Rattle.moments.specs.declared.Five.{Five}
 use Rattle.moments.specs.declared.Params.{Params}
@@ -14,36 +12,17 @@ use Rattle.refusal.specs.Rules.{Rule, ◌⇒◌, first_refusal}
 use Rattle.refusal.specs.declared.Refusal.TheVariants.{TooFewMoments, TooManyMoments, UnknownVariant, BadWeight}
 use Rattle.step.specs.declared.Step.{Step}
 use Rattle.step.specs.declared.Step.TheVariants.{Admitted, Inadmissible}
+use Rattle.fit_state.specs.Errors.{error_of}
+use Rattle.fit_state.specs.State.{fit_part, with_fit}
 use Rattle.walk.specs.Trail.{Arguments, trail, trail_from}
 use Rattle.walk.specs.Variants.{is_variant}
-use Rattle.walk.specs.declared.Fit.{Fit}
-use Rattle.walk.specs.declared.M2N.{M2N}
+use Rattle.fit_state.specs.declared.Fit.{Fit}
+use Rattle.fit_state.specs.declared.M2N.{M2N}
 use Rattle.walk.specs.declared.Reason.{Reason}
 use Rattle.walk.specs.declared.Reason.TheVariants as reason
 use Rattle.walk.specs.declared.Reason.TheVariants.{Spent, Settled}
-use Rattle.walk.specs.declared.After.{After}
+use Rattle.fit_state.specs.declared.After.{After}
 use Rattle.walk.specs.declared.Ended.{Ended}
-
--- (a - b)²
-abbrev pub squared : Float → Float → Float
-squared a b = mul binary64 (sub binary64 a b) (sub binary64 a b)
-
--- the sum of the squares of the first k differences, from -0
-unfoldable pub squares : List Float → List Float → ℕ → Float
-squares a b zero = minus_nought
-squares a b (suc k) = add binary64 (squares a b k) (squared (get_or a k nan) (get_or b k nan))
-
--- the step error: over at most five moments, four where only four are given
-unfoldable pub error_of : M2N → Five → Float
-unfolding squares
-error_of m n = squares m.moments (listed n) (min m.len 5)
-
--- the fit part of a state, and the state with another
-abbrev pub fit_part : M2N → Fit
-fit_part m = record { new_moments = m.new_moments; parameters = m.parameters; error = m.error }
-
-abbrev pub with_fit : M2N → Fit → M2N
-with_fit m f = record m { new_moments = f.new_moments; parameters = f.parameters; error = f.error }
 
 -- parameters, and their step error
 pub record Visit : Type 0 where

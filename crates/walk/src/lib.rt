@@ -6,33 +6,17 @@ ghost use Rattle.std.specs.Prelude.{◌≡◌, true, false, ◌+◌, ◌≤◌, 
 ghost use Rattle.moments.specs.Lists.{five_of, listed};
 ghost use Rattle.walk.specs.Machine.{advanced, at_end, begun, outcome_of, over};
 ghost use Rattle.walk.specs.Parts.{Turned, ended_after, fit_after, shape_variant, steps_on};
-ghost use Rattle.walk.specs.Walk.{fit_part, with_fit};
+ghost use Rattle.fit_state.specs.State.{fit_part, with_fit};
 ghost use Rattle.walk.specs.Reasons.{number_of};
-ghost use Rattle.walk.specs.Squares.{squares_summed};
+ghost use Rattle.fit_state.specs.Errors.{squares_summed, squares};
 ghost use Rattle.walk.specs.Trail.{step_for};
 ghost use Rattle.walk.specs.Variants.{variant_number, variant_of};
-ghost use Rattle.walk.specs.Walk.{is_weight, needed_by, squares, walk_of, walk_refusal};
+ghost use Rattle.walk.specs.Walk.{is_weight, needed_by, walk_of, walk_refusal};
 
+use fit_state::{After, Fit, M2N, errors};
 use moments::{Five, Params};
 use refusal::Refusal;
 use step::Step;
-
-// The fit state: the target moments (the first `len` of 16), the settings, and the best fit so far. The
-// moments are an array and a length, as document 01 names them: a state is a value of one size, with no heap.
-// The last three are a `Fit`; they stand flat, as the Rust's state has them.
-#[derive(Clone, Copy)]
-pub struct M2N {
-    pub moments: [f64; 16],
-    pub len: usize,
-    pub epsilon: f64,
-    pub factor: f64,
-    pub n_runs: usize,
-    pub variant: usize,
-    pub max_iter: usize,
-    pub new_moments: Five,
-    pub parameters: Params,
-    pub error: f64,
-}
 
 // Which step a walk takes; each is its number. A state has a `usize`, since it may hold any number, and a
 // walk refuses the others.
@@ -80,28 +64,6 @@ impl Variant {
     }
 }
 
-// The part of the state that a walk changes.
-#[derive(Clone, Copy)]
-pub struct Fit {
-    pub new_moments: Five,
-    pub parameters: Params,
-    pub error: f64,
-}
-
-impl From<M2N> for Fit {
-    ghost from_gives = { λ m f. f ≡ fit_part m };
-
-    fn from(m: M2N) -> Fit
-        ensures { result ≡ fit_part m }
-    {
-        Fit {
-            new_moments: m.new_moments,
-            parameters: m.parameters,
-            error: m.error,
-        }
-    }
-}
-
 // A pair of the walk, and how many steps led to it.
 #[derive(Clone, Copy)]
 struct Seen {
@@ -143,13 +105,6 @@ pub struct Ended {
     pub reason: Reason,
 }
 
-// The state after a walk or a search, and how it went.
-#[derive(Clone, Copy)]
-pub struct After<T> {
-    pub state: M2N,
-    pub outcome: Result<T, Refusal>,
-}
-
 pub type Walked = After<Ended>;
 
 // A walk under way: the state with the best of what was met, the pair of the next step, how many steps
@@ -163,49 +118,13 @@ pub struct Walking {
     pub stopped: Option<Reason>,
 }
 
-// The moments that a step reads.
-pub fn first_five(m: M2N) -> Five
-    ensures { result ≡ five_of m.moments }
-{
-    let [m_1, m_2, m_3, m_4, m_5, ..] = m.moments;
-    Five {
-        m_1,
-        m_2,
-        m_3,
-        m_4,
-        m_5,
-    }
-}
-
-// The squares, summed as Rust's sum() does, from -0.
-pub fn sum_of_squares(numbers: &[f64]) -> f64
-    ensures { result ≡ squares_summed numbers.now }
-{
-    numbers.iter().map(|x| *x * *x).sum()
-}
-
-// The step error: the squares of the first `len` differences, and of no more than there are.
-#[tactic(auto, using(crate::proofs::Sums::squares_are))]
-pub fn error_of(len: usize, a: Five, b: Five) -> f64
-    ensures { result ≡ squares (listed a) (listed b) (min len 5) }
-{
-    let differences = [
-        a.m_1 - b.m_1,
-        a.m_2 - b.m_2,
-        a.m_3 - b.m_3,
-        a.m_4 - b.m_4,
-        a.m_5 - b.m_5,
-    ];
-    sum_of_squares(&differences[..len.min(5)])
-}
-
 // An admitted iterate: its moments are stored, and it is kept where its error is strictly smaller.
 #[tactic(auto, unfolding(crate::specs::Parts::fit_after))]
 fn fit_after(len: usize, a: Five, f: Fit, r: Params) -> Fit
     ensures { result ≡ fit_after len a f r }
 {
     let new_moments = moments::get_moments(r);
-    let error = error_of(len, a, new_moments);
+    let error = errors::error_of(len, a, new_moments);
     if error < f.error {
         return Fit {
             new_moments,
@@ -214,22 +133,6 @@ fn fit_after(len: usize, a: Five, f: Fit, r: Params) -> Fit
         };
     }
     Fit { new_moments, ..f }
-}
-
-fn with_fit(m: M2N, f: Fit) -> M2N
-    ensures { result ≡ with_fit m f }
-{
-    let Fit {
-        new_moments,
-        parameters,
-        error,
-    } = f;
-    M2N {
-        new_moments,
-        parameters,
-        error,
-        ..m
-    }
 }
 
 // Whether a walk may start at the weight: at least 0 and below 1, so not NaN.
@@ -347,7 +250,7 @@ fn steps_on(
     ensures { result ≡ steps_on w f count mu_2 p_1 stopped }
 {
     Walking {
-        state: with_fit(w.state, f),
+        state: w.state.with_fit(f),
         mu_2,
         p_1,
         count: w.count + count,
@@ -363,7 +266,7 @@ fn go_on(w: Walking, variant: Variant, n: usize) -> Walking
     ensures { result ≡ advanced n w }
 {
     let m = w.state;
-    let a = first_five(m);
+    let a = m.first_five();
     let to = n.min(m.max_iter - w.count);
     let mut f = Fit::from(m);
     let mut mu = w.mu_2;

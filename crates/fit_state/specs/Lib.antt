@@ -1,0 +1,4 @@
+pub mod Errors
+pub mod Rows
+pub mod Search
+pub mod State
