@@ -1,4 +1,4 @@
--- What holds of a walk in pieces, and of a trail in pieces. Statements, and how a trail goes on; `proofs/Pieces.antt` and `proofs/Whole.antt` prove them.
+-- What holds of a walk in pieces, and of a trail in pieces. Statements, and how a trail goes on; `Pieces.antt`, `Whole.antt` and `Cuts.antt` of proofs/ prove them.
 use Rattle.std.specs.Prelude.{◌≡◌, List, [], ◌∷◌, ◌++◌, true, false, cond, ℕ, ◌+◌, ◌≤◌, Float, Option, Some, None, Result, Ok, Err}
 use Rattle.refusal.specs.declared.Refusal.{Refusal}
 use Rattle.step.specs.declared.Step.{Step}
