@@ -11,4 +11,4 @@ use Rattle.grid.specs.Search.{Served}
 
 -- ---- what a search rests on, where it is not refused
 pub served : (m : M2N) (epsilon : Float) (weights : List Float) → grid_refusal m epsilon 1 weights ≡ Ok tt → Served m epsilon weights
-served m epsilon weights e = let (a, b, c) = grid_known m epsilon 1 weights e in (a, b, omega (arith, c))
+served m epsilon weights e = let k = grid_known m epsilon 1 weights e in (k.few_moments, k.few_rows, omega arith)
