@@ -14,14 +14,15 @@ use Rattle.step.specs.declared.Step.{Step}
 use Rattle.step.specs.declared.Step.TheVariants.{Admitted, Inadmissible}
 use Rattle.scaling.specs.Scaling.{Twins, Doubles, fair_step, fair_from, fair_walk, walk_trail, scale_params, scale_step, Compared, WalksScale}
 use Rattle.walk.specs.Trail.{settled, step_for, trail_from}
-use Rattle.walk.specs.Walk.{needed_by, walk_refusal, stopped, reason_of, trail_of, answered, walk_of, keep_all}
+use Rattle.walk.specs.Walk.{needed_by, walk_refusal, stopped, stopped_at, reason_of, trail_of, answered, walk_of, keep_all}
 use Rattle.fit_state.specs.declared.M2N.{M2N}
 use Rattle.walk.specs.declared.Ended.{Ended}
 use Rattle.walk.specs.declared.Reason.{Reason}
 use Rattle.walk.specs.declared.Reason.TheVariants.{Spent}
 use Rattle.refusal.specs.Numbers.{Checked, unless_refused}
 use Rattle.refusal.specs.declared.Refusal.{Refusal}
-use Rattle.std.specs.Prelude.{Result, Ok, Err}
+use Rattle.std.specs.List.{last_or}
+use Rattle.std.specs.Prelude.{Option, Some, None, Result, Ok, Err}
 use Rattle.std.specs.Result.{is_ok}
 use Rattle.walk.proofs.Trails.{enough}
 use Rattle.scaling.proofs.StepScale.{handed, Alike, Moments, step_scale}
@@ -75,10 +76,13 @@ length-map : (s : ℤ) (t : List Step) → length (map (scale_step s) t) ≡ len
 length-map s [] = refl
 length-map s (r ∷ t) = ap suc (length-map s t)
 
+last_map : (s : ℤ) (o o' : Option Step) (t : List Step) → stopped_at o' ≡ stopped_at o → stopped_at (last_or o' (map (scale_step s) t)) ≡ stopped_at (last_or o t)
+last_map s o o' [] h = h
+last_map s o o' (Inadmissible ∷ t) h = last_map s (Some Inadmissible) (Some Inadmissible) t refl
+last_map s o o' (Admitted r ∷ t) h = last_map s (Some (Admitted r)) (Some (Admitted (scale_params s r))) t refl
+
 stopped_map : (s : ℤ) (t : List Step) → stopped (map (scale_step s) t) ≡ stopped t
-stopped_map s [] = refl
-stopped_map s (Inadmissible ∷ t) = refl
-stopped_map s (Admitted r ∷ t) = stopped_map s t
+stopped_map s t = last_map s None None t refl
 
 reason_map : (s : ℤ) (limit : ℕ) (t : List Step) → reason_of limit (map (scale_step s) t) ≡ reason_of limit t
 reason_map s limit t = ap₂ (λ (n : ℕ) (k : Reason). cond (eqb n limit) Spent k) (length-map s t) (stopped_map s t)

@@ -1,4 +1,9 @@
+pub mod Cuts
+pub mod Left
+pub mod Pieces
 pub mod Rounds
 pub mod Stays
 pub mod Trails
+pub mod Visits
+pub mod Whole
 pub mod Within

@@ -1,4 +1,4 @@
--- What a walk leaves as it was: the moments; and all, where σ₂² of its first step is below zero, by the trail of one entry. Assumes nothing.
+-- What a walk leaves as it was: all but the fit; and all, where σ₂² of its first step is below zero, by the trail of one entry. Assumes nothing.
 use mathlib.Core.Path.{◌≡◌, refl, ap, ◌∙◌}
 use mathlib.Core.List.{List, [], ◌∷◌}
 use mathlib.Core.Bool.{Bool, true, false, cond}
@@ -6,9 +6,6 @@ use Prim.Native.Nat.{ℕ, zero, suc}
 use lib.Dec.{eqb}
 use lib.Ieee.{Float, lt}
 use Rattle.float.specs.Constants.{nought}
-use Rattle.moments.specs.Mixture.{get_moments}
-use Rattle.moments.specs.declared.Five.{Five}
-use Rattle.moments.specs.declared.Params.{Params}
 use Rattle.refusal.specs.Numbers.{Checked}
 use Rattle.std.specs.Prelude.{Ok, Err}
 use Rattle.step.proofs.StepRuns.{negative_4, negative_5}
@@ -16,22 +13,22 @@ use Rattle.step.specs.Steps.{sigma2_squared, step_4, step_5, first_four, first_f
 use Rattle.step.specs.declared.Step.{Step}
 use Rattle.step.specs.declared.Step.TheVariants.{Admitted, Inadmissible}
 use Rattle.walk.specs.Trail.{step_for, trail_from}
-use Rattle.fit_state.specs.Errors.{error_of}
-use Rattle.walk.specs.Walk.{better, keep_of, keep_all, trail_of, walk_refusal, answered, walk_of}
+use Rattle.walk.specs.Walk.{keep_of, keep_all, trail_of, walk_refusal, answered, walk_of}
+use Rattle.fit_state.specs.State.{fit_part, with_fit}
+use Rattle.fit_state.specs.declared.Fit.{Fit}
 use Rattle.fit_state.specs.declared.M2N.{M2N}
 use Rattle.walk.proofs.Trails.{out}
 
--- ---- the moments
-better_moments : (b : Bool) (m : M2N) (r : Params) (n : Five) (e : Float) → (better b m r n e).moments ≡ m.moments
-better_moments true m r n e = refl
-better_moments false m r n e = refl
+-- ---- all but the fit
+pub keeps_apart : (m : M2N) (s : Step) (f : Fit) → with_fit (keep_of m s) f ≡ with_fit m f
+unfolding keep_of
+keeps_apart m Inadmissible f = refl
+keeps_apart m (Admitted r) f = refl
 
-kept_moments : (m : M2N) (t : List Step) → (keep_all m t).moments ≡ m.moments
-unfolding keep_all keep_of
-kept_moments m [] = refl
-kept_moments m (Inadmissible ∷ t) = kept_moments m t
-kept_moments m (Admitted r ∷ t) =
-    kept_moments (keep_of m (Admitted r)) t ∙ better_moments (lt (error_of m (get_moments r)) m.error) m r (get_moments r) (error_of m (get_moments r))
+pub only_fit : (m : M2N) (t : List Step) → keep_all m t ≡ with_fit m (fit_part (keep_all m t))
+unfolding keep_all
+only_fit m [] = refl
+only_fit m (s ∷ t) = only_fit (keep_of m s) t ∙ keeps_apart m s (fit_part (keep_all (keep_of m s) t))
 
 answered_moments : (r : Checked) (m kept : M2N) (t : List Step) → kept.moments ≡ m.moments → (answered r m kept t).state.moments ≡ m.moments
 answered_moments (Ok u) m kept t h = h
@@ -39,7 +36,7 @@ answered_moments (Err e) m kept t h = refl
 
 pub same_moments : (m : M2N) (μ p : Float) → (walk_of m μ p).state.moments ≡ m.moments
 unfolding walk_of
-same_moments m μ p = answered_moments (walk_refusal m p) m (keep_all m (trail_of m μ p)) (trail_of m μ p) (kept_moments m (trail_of m μ p))
+same_moments m μ p = let t = trail_of m μ p in answered_moments (walk_refusal m p) m (keep_all m t) t (ap (λ x. x.moments) (only_fit m t))
 
 -- ---- the whole state
 negative : (variant : ℕ) (ms : List Float) (μ p : Float) → lt (sigma2_squared ms μ p) nought ≡ true → step_for variant ms μ p ≡ Inadmissible

@@ -1,6 +1,9 @@
 pub mod Parts
 pub mod Limit
+pub mod Machine
+pub mod Pieces
 pub mod Reasons
 pub mod Trail
 pub mod Variants
+pub mod Visits
 pub mod Walk

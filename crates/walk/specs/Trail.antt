@@ -24,3 +24,15 @@ trail_from step ε (suc n) μ p =
       | Admitted r ↦ Admitted r ∷ cond (settled ε p r.p_1) [] (trail_from step ε n r.mu_2 r.p_1)
       | Inadmissible ↦ Inadmissible ∷ []
     ]
+
+-- what a trail is made from, and nothing else
+pub record Arguments : Type 0 where
+  pub variant : ℕ
+  pub moments : List Float
+  pub mean : Float
+  pub weight : Float
+  pub epsilon : Float
+  pub max_iter : ℕ
+
+abbrev pub trail : Arguments → List Step
+trail a = trail_from (step_for a.variant a.moments) a.epsilon a.max_iter a.mean a.weight

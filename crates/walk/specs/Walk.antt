@@ -1,5 +1,6 @@
 -- What a walk answers: refused, or its trail's length, the reason, and the best of what was met. Definitions only.
-use Rattle.std.specs.Prelude.{List, [], ◌∷◌, ◌++◌, Bool, true, false, ◌&&◌, not, cond, ℕ, ltb, eqb, length, Float, Ok, Err}
+use Rattle.std.specs.Prelude.{List, [], ◌∷◌, ◌++◌, Bool, ◌&&◌, not, cond, ℕ, ltb, eqb, length, Float, Option, Some, None, Ok, Err}
+use Rattle.std.specs.List.{last_or}
 use Rattle.std.specs.Float.Ieee.{lt, le}
 use Rattle.float.specs.Constants.{nought, one}
 use Rattle.moments.specs.Mixture.{get_moments}
@@ -11,9 +12,11 @@ use Rattle.refusal.specs.Rules.{Rule, ◌⇒◌, first_refusal}
 use Rattle.refusal.specs.declared.Refusal.TheVariants.{TooFewMoments, TooManyMoments, UnknownVariant, BadWeight}
 use Rattle.step.specs.declared.Step.{Step}
 use Rattle.step.specs.declared.Step.TheVariants.{Admitted, Inadmissible}
-use Rattle.walk.specs.Trail.{step_for, trail_from}
-use Rattle.walk.specs.Variants.{is_variant}
 use Rattle.fit_state.specs.Errors.{error_of}
+use Rattle.fit_state.specs.State.{fit_part, with_fit}
+use Rattle.walk.specs.Trail.{Arguments, trail, trail_from}
+use Rattle.walk.specs.Variants.{is_variant}
+use Rattle.fit_state.specs.declared.Fit.{Fit}
 use Rattle.fit_state.specs.declared.M2N.{M2N}
 use Rattle.walk.specs.declared.Reason.{Reason}
 use Rattle.walk.specs.declared.Reason.TheVariants as reason
@@ -21,15 +24,27 @@ use Rattle.walk.specs.declared.Reason.TheVariants.{Spent, Settled}
 use Rattle.fit_state.specs.declared.After.{After}
 use Rattle.walk.specs.declared.Ended.{Ended}
 
--- an admitted iterate: its moments are stored, and it is kept where its error is strictly smaller, so NaN never wins
-abbrev pub better : Bool → M2N → Params → Five → Float → M2N
-better true m r n e = record m { new_moments = n; parameters = r; error = e }
-better false m r n e = record m { new_moments = n }
+-- parameters, and their step error
+pub record Visit : Type 0 where
+  pub parameters : Params
+  pub error : Float
 
+-- of two the one with the strictly smaller error, otherwise the first: a NaN never wins
+abbrev pub smaller : Visit → Visit → Visit
+smaller v w = cond (lt w.error v.error) w v
+
+-- the best that a fit has; and a fit with moments stored and this as its best
+abbrev pub best_of : Fit → Visit
+best_of f = record { parameters = f.parameters; error = f.error }
+
+abbrev pub fit_with : Five → Visit → Fit
+fit_with n v = record { new_moments = n; parameters = v.parameters; error = v.error }
+
+-- an admitted iterate: its moments are stored, and it is kept where its error is strictly smaller
 unfoldable pub keep_of : M2N → Step → M2N
 unfolding error_of
 keep_of m Inadmissible = m
-keep_of m (Admitted r) = let n = get_moments r in let e = error_of m n in better (lt e m.error) m r n e
+keep_of m (Admitted r) = let n = get_moments r in with_fit m (fit_with n (smaller (best_of (fit_part m)) (record { parameters = r; error = error_of m n })))
 
 -- the entries of a trail one after another
 unfoldable pub keep_all : M2N → List Step → M2N
@@ -37,20 +52,29 @@ unfolding keep_of
 keep_all m [] = m
 keep_all m (r ∷ t) = keep_all (keep_of m r) t
 
--- the trail of a walk from a state
+-- what the trail of a walk from a state, a mean and a weight is made from
+abbrev pub arguments_of : M2N → Float → Float → Arguments
+arguments_of m μ p = record { variant = m.variant; moments = m.moments; mean = μ; weight = p; epsilon = m.epsilon; max_iter = m.max_iter }
+
 unfoldable pub trail_of : M2N → Float → Float → List Step
 unfolding trail_from
-trail_of m μ p = trail_from (step_for m.variant m.moments) m.epsilon m.max_iter μ p
+trail_of m μ p = trail (arguments_of m μ p)
 
--- what stopped the walk before its limit: its last entry is inadmissible, or it settled
+-- what stopped the walk before its limit, by the last entry of its trail: that is inadmissible, or it settled
+abbrev pub stopped_at : Option Step → Reason
+stopped_at (Some Inadmissible) = reason.Inadmissible
+stopped_at (Some (Admitted r)) = Settled
+stopped_at None = Spent
+
 abbrev pub stopped : List Step → Reason
-stopped [] = Settled
-stopped (Inadmissible ∷ t) = reason.Inadmissible
-stopped (Admitted r ∷ t) = stopped t
+stopped t = stopped_at (last_or None t)
 
--- spent whenever the count equals max_iter, otherwise what stopped it
+-- spent whenever the count equals the limit, otherwise what stopped it
+abbrev pub reason_at : ℕ → ℕ → Reason → Reason
+reason_at count limit stopped = cond (eqb count limit) Spent stopped
+
 abbrev pub reason_of : ℕ → List Step → Reason
-reason_of limit t = cond (eqb (length t) limit) Spent (stopped t)
+reason_of limit t = reason_at (length t) limit (stopped t)
 
 -- how many moments the variant's step reads
 abbrev pub needed_by : ℕ → ℕ

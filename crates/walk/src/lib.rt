@@ -2,9 +2,10 @@
 // step limit is reached. The best parameters met on the way are kept.
 #![tactic(auto)]
 
-ghost use Rattle.std.specs.Prelude.{◌≡◌, true, ◌≤◌, ◌<◌, min, Ok};
+ghost use Rattle.std.specs.Prelude.{◌≡◌, true, false, ◌+◌, ◌≤◌, ◌<◌, min};
 ghost use Rattle.moments.specs.Lists.{five_of, listed};
-ghost use Rattle.walk.specs.Parts.{Turned, ended_after, fit_after, shape_variant, walk_variant, walked_to};
+ghost use Rattle.walk.specs.Machine.{advanced, at_end, begun, outcome_of, over};
+ghost use Rattle.walk.specs.Parts.{Turned, ended_after, fit_after, shape_variant, steps_on};
 ghost use Rattle.fit_state.specs.State.{fit_part, with_fit};
 ghost use Rattle.walk.specs.Reasons.{number_of};
 ghost use Rattle.fit_state.specs.Errors.{squares_summed, squares};
@@ -106,6 +107,17 @@ pub struct Ended {
 
 pub type Walked = After<Ended>;
 
+// A walk under way: the state with the best of what was met, the pair of the next step, how many steps
+// were taken, and what stopped it.
+#[derive(Clone, Copy)]
+pub struct Walking {
+    pub state: M2N,
+    pub mu_2: f64,
+    pub p_1: f64,
+    pub count: usize,
+    pub stopped: Option<Reason>,
+}
+
 // An admitted iterate: its moments are stored, and it is kept where its error is strictly smaller.
 #[tactic(auto, unfolding(crate::specs::Parts::fit_after))]
 fn fit_after(len: usize, a: Five, f: Fit, r: Params) -> Fit
@@ -142,14 +154,14 @@ fn check_shape(m: M2N) -> Result<Variant, Refusal>
 
 // And then of the weight.
 #[tactic(auto, unfolding(crate::specs::Walk::shape_refusal, crate::specs::Walk::walk_refusal))]
-fn check(m: M2N, p_1: f64) -> Result<Variant, Refusal>
-    ensures { result ≡ walk_variant m p_1 }
+fn check(m: M2N, p_1: f64) -> Result<(), Refusal>
+    ensures { result ≡ walk_refusal m p_1 }
 {
-    let variant = check_shape(m)?;
+    check_shape(m)?;
     if !is_weight(p_1) {
         return Err(Refusal::BadWeight);
     }
-    Ok(variant)
+    Ok(())
 }
 
 // It is spent whenever the count equals the limit; otherwise the reason is what stopped it.
@@ -175,13 +187,13 @@ fn same(x: f64, y: f64) -> bool
 // A walk that comes back to a pair it has seen goes round from there on, and going round changes
 // nothing more: as many whole rounds as the limit leaves are counted and not walked. The pair looked
 // out for is that of the last power of two of steps, so a round of any length is found.
-fn count_rounds(count: usize, max_iter: usize, mu: f64, p: f64, seen: Seen) -> Turn
-    requires { (seen.at < count) × (count ≤ max_iter) }
-    ensures { Turned count max_iter mu p seen result }
+fn count_rounds(count: usize, limit: usize, mu: f64, p: f64, seen: Seen) -> Turn
+    requires { (seen.at < count) × (count ≤ limit) }
+    ensures { Turned count limit mu p seen result }
 {
     if same(mu, seen.mu) && same(p, seen.p) {
         let round = count - seen.at;
-        let to = count + (max_iter - count) / round * round;
+        let to = count + (limit - count) / round * round;
         return Turn {
             count: to,
             seen: Seen { mu, p, at: to },
@@ -196,51 +208,122 @@ fn count_rounds(count: usize, max_iter: usize, mu: f64, p: f64, seen: Seen) -> T
     Turn { count, seen }
 }
 
-// The walk of a state that is not refused. `max_iter` is the budget. A turn may count whole rounds, so
-// the loop is no `for` over its turns.
-fn walk(m: M2N, variant: Variant, mu_2: f64, p_1: f64) -> (Fit, Ended)
-    requires { (variant_number variant ≡ m.variant) × (Ok tt ≡ walk_refusal m p_1) }
-    ensures { walked_to m result.0 result.1 ≡ walk_of m mu_2 p_1 }
+// A walk before its first step, if it is not refused.
+#[tactic(auto, unfolding(crate::specs::Machine::begun))]
+pub fn begin(m: M2N, mu_2: f64, p_1: f64) -> Result<Walking, Refusal>
+    ensures { result ≡ begun m mu_2 p_1 }
 {
+    check(m, p_1)?;
+    Ok(Walking {
+        state: m,
+        mu_2,
+        p_1,
+        count: 0,
+        stopped: None,
+    })
+}
+
+fn at_end(w: Walking) -> bool
+    ensures { result ≡ at_end w }
+{
+    w.stopped.is_some() || w.state.max_iter <= w.count
+}
+
+// Whether a walk takes no more steps. A `Walking` can be made by hand, of a state that no walk begins with:
+// that is over too, since a step reads a variant and as many moments as that needs.
+#[tactic(auto, unfolding(crate::specs::Machine::over))]
+pub fn is_over(w: Walking) -> bool
+    ensures { result ≡ over w }
+{
+    check_shape(w.state).is_err() || at_end(w)
+}
+
+fn steps_on(
+    w: Walking,
+    f: Fit,
+    count: usize,
+    mu_2: f64,
+    p_1: f64,
+    stopped: Option<Reason>,
+) -> Walking
+    requires { w.count + count ≤ w.state.max_iter }
+    ensures { result ≡ steps_on w f count mu_2 p_1 stopped }
+{
+    Walking {
+        state: w.state.with_fit(f),
+        mu_2,
+        p_1,
+        count: w.count + count,
+        stopped,
+    }
+}
+
+// Steps of a walk that is not over. A turn may count whole rounds, so the loop is no `for` over its
+// turns. The count is the piece's own, so a piece finds the rounds that a whole walk as long would find.
+fn go_on(w: Walking, variant: Variant, n: usize) -> Walking
+    requires its_variant { variant_number variant ≡ w.state.variant }
+    requires going { over w ≡ false }
+    ensures { result ≡ advanced n w }
+{
+    let m = w.state;
     let a = m.first_five();
-    let max_iter = m.max_iter;
+    let to = n.min(m.max_iter - w.count);
     let mut f = Fit::from(m);
-    let mut mu = mu_2;
-    let mut p = p_1;
+    let mut mu = w.mu_2;
+    let mut p = w.p_1;
     let mut count = 0;
     let mut seen = Seen { mu, p, at: 0 };
-    while count < max_iter {
+    while count < to {
         let s = variant.step(a, mu, p);
         count += 1;
         let Step::Admitted(r) = s else {
-            return (f, ended_after(count, max_iter, Reason::Inadmissible));
+            return steps_on(w, f, count, mu, p, Some(Reason::Inadmissible));
         };
         f = fit_after(m.len, a, f, r);
-        if number::abs(p - r.p_1) < m.epsilon {
-            return (f, ended_after(count, max_iter, Reason::Settled));
-        }
+        let settled = number::abs(p - r.p_1) < m.epsilon;
         mu = r.mu_2;
         p = r.p_1;
-        let t = count_rounds(count, max_iter, mu, p, seen);
+        if settled {
+            return steps_on(w, f, count, mu, p, Some(Reason::Settled));
+        }
+        let t = count_rounds(count, to, mu, p, seen);
         count = t.count;
         seen = t.seen;
     }
-    (f, ended_after(count, max_iter, Reason::Spent))
+    steps_on(w, f, count, mu, p, None)
+}
+
+// At most n steps on, up to the end of the walk.
+#[tactic(auto, using(crate::proofs::Trails::its_variant, crate::proofs::Left::going, crate::proofs::Left::ended, crate::proofs::Left::misshapen))]
+pub fn advance(w: Walking, n: usize) -> Walking
+    ensures { result ≡ advanced n w }
+{
+    match check_shape(w.state) {
+        Ok(variant) if !at_end(w) => go_on(w, variant, n),
+        _ => w,
+    }
+}
+
+// What a walk that is over answers; of one that is not, as if its limit were reached.
+#[tactic(auto, unfolding(crate::specs::Machine::outcome_of))]
+pub fn outcome_of(w: Walking) -> Walked
+    ensures { result ≡ outcome_of w }
+{
+    let m = w.state;
+    let stopped = w.stopped.unwrap_or(Reason::Spent);
+    Walked {
+        state: m,
+        outcome: check_shape(m).map(|_| ended_after(w.count, m.max_iter, stopped)),
+    }
 }
 
 // Iterates the variant's step from a mean and a weight.
-#[tactic(auto, using(crate::proofs::Trails::is_allowed, crate::proofs::Trails::refused))]
+#[tactic(auto, using(crate::proofs::Whole::whole))]
 pub fn iterate_from(m: M2N, mu_2: f64, p_1: f64) -> Walked
     ensures { result ≡ walk_of m mu_2 p_1 }
 {
-    match check(m, p_1) {
-        Ok(variant) => {
-            let (fit, ended) = walk(m, variant, mu_2, p_1);
-            Walked {
-                state: m.with_fit(fit),
-                outcome: Ok(ended),
-            }
-        }
+    match begin(m, mu_2, p_1) {
+        Ok(w) => outcome_of(advance(w, m.max_iter)),
         Err(refusal) => Walked {
             state: m,
             outcome: Err(refusal),
