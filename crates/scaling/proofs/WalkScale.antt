@@ -6,15 +6,15 @@ use native.Mathlib.Nat.{lt_of_lt_of_le}
 use mathlib.Core.Bool.{Bool, true, false, cond}
 use lib.IntN.{ℤ}
 use lib.Dec.{T, eqb}
-use lib.ListN.{length}
-use lib.Ieee.{Float, binary64, fits}
+use lib.ListN.{length, get_or}
+use lib.Ieee.{Float, nan, binary64, fits}
 use lib.Ieee.Fits.{and_l, and_r}
 use Rattle.float.specs.Scale.{scale}
 use Rattle.step.specs.declared.Step.{Step}
 use Rattle.step.specs.declared.Step.TheVariants.{Admitted, Inadmissible}
-use Rattle.scaling.specs.Scaling.{Twins, Doubles, fair_step, fair_from, fair_walk, walk_trail, scale_params, scale_step, Compared, WalksScale}
+use Rattle.scaling.specs.Scaling.{Twins, fair_step, fair_from, fair_walk, walk_trail, scale_params, scale_step, ReadOff, Compared, WalksScale}
 use Rattle.walk.specs.Trail.{settled, step_for, trail_from}
-use Rattle.walk.specs.Walk.{needed_by, walk_refusal, stopped, reason_of, trail_of, answered, walk_of, keep_all}
+use Rattle.walk.specs.Walk.{Walked, needed_by, walk_refusal, stopped, reason_of, trail_of, answered, walk_of, keep_all}
 use Rattle.walk.specs.declared.M2N.{M2N}
 use Rattle.walk.specs.declared.Ended.{Ended}
 use Rattle.walk.specs.declared.Reason.{Reason}
@@ -25,6 +25,12 @@ use Rattle.std.specs.Prelude.{Result, Ok, Err}
 use Rattle.std.specs.Result.{is_ok}
 use Rattle.walk.proofs.Trails.{enough}
 use Rattle.scaling.proofs.StepScale.{handed, Alike, Moments, step_scale}
+
+-- ---- every f64 is a value of binary64: those that a walk reads
+pub record Doubles (m : M2N) (μ p : Float) : Type 0 where
+  pub moments : (k : ℕ) → k < m.len → T (fits binary64 (get_or m.moments k nan))
+  pub mean : T (fits binary64 μ)
+  pub weight : T (fits binary64 p)
 
 -- ---- a trail, from a law of its step
 module _ (s : ℤ) (ε : Float) (step step' : Float → Float → Step) (ok ok' : Float → Float → Bool)
@@ -119,27 +125,23 @@ outcome_is m μ p = go (walk_refusal m p)
     go (Ok u) = refl
     go (Err e) = refl
 
-abbrev taken : Result Ended Refusal → ℕ
-taken (Ok e) = e.count
-taken (Err e) = 0
-
-counted : (m : M2N) (μ p : Float) (e : Ended) → (walk_of m μ p).outcome ≡ Ok e → e.count ≡ length (walk_trail m μ p)
-unfolding walk_trail
-counted m μ p e h = sym (ap taken (sym (outcome_is m μ p) ∙ h)) ∙ go (walk_refusal m p)
+read_off : (m : M2N) (μ p : Float) → ReadOff m.max_iter (walk_trail m μ p) (walk_of m μ p)
+unfolding walk_trail walk_of
+read_off m μ p = go (walk_refusal m p)
   where
-    go : (r : Checked) → taken (outcome_by r m.max_iter (trail_of m μ p)) ≡ length (cond (is_ok r) (trail_of m μ p) [])
-    go (Ok u) = refl
-    go (Err e) = refl
+    go : (r : Checked) → ReadOff m.max_iter (cond (is_ok r) (trail_of m μ p) []) (answered r m (keep_all m (trail_of m μ p)) (trail_of m μ p))
+    go (Ok u) = record { count = λ e h. cc; reason = λ e h. cc }
+    go (Err f) = record { count = λ e h. cc; reason = λ e h. cc }
 
 -- ---- the theorem
 compared : (s : ℤ) (m m' : M2N) (μ p : Float) → Twins s m m' μ (scale s μ) → Doubles m μ p → Doubles m' (scale s μ) p
-    → T (fair_walk m μ p) → T (fair_walk m' (scale s μ) p) → Compared s m m' μ (scale s μ) p
+    → T (fair_walk m μ p) → T (fair_walk m' (scale s μ) p) → Compared s m m' μ (scale s μ) p (walk_of m μ p) (walk_of m' (scale s μ) p)
 unfolding walk_trail fair_walk
 compared s m m' μ p t d d' g h =
     record {
       outcomes = outcome_is m' (scale s μ) p ∙ ap₂ (λ (r : Checked) (limit : ℕ). outcome_by r limit (trail_of m' (scale s μ) p)) same t.limits ∙ ends (walk_refusal m p) alike ∙ sym (outcome_is m μ p);
-      count = counted m μ p;
-      count' = counted m' (scale s μ) p;
+      first = read_off m μ p;
+      second = read_off m' (scale s μ) p;
       trails = ap (λ (r : Checked). cond (is_ok r) (trail_of m' (scale s μ) p) []) same ∙ lists (walk_refusal m p) alike;
     }
   where
@@ -157,6 +159,7 @@ compared s m m' μ p t d d' g h =
     lists (Ok u) e = e refl
     lists (Err f) e = refl
 
-pub walks_scale : WalksScale
-walks_scale s m m' μ μ' p t d d' g h =
-    subst (λ (x : Float). Twins s m m' μ x → Doubles m' x p → T (fair_walk m' x p) → Compared s m m' μ x p) (sym t.means) (λ t d' h. compared s m m' μ p t d d' g h) t d' h
+pub walks_scale : (m m' : M2N) (μ μ' p : Float) (w w' : Walked) → w ≡ walk_of m μ p → w' ≡ walk_of m' μ' p → Doubles m μ p → Doubles m' μ' p → WalksScale m μ m' μ' p w w'
+walks_scale m m' μ μ' p w w' e e' d d' s t g h =
+    rw (e, e')
+    (subst (λ (x : Float). Twins s m m' μ x → Doubles m' x p → T (fair_walk m' x p) → Compared s m m' μ x p (walk_of m μ p) (walk_of m' x p)) (sym t.means) (λ t d' h. compared s m m' μ p t d d' g h) t d' h)

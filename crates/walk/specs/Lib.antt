@@ -1,4 +1,5 @@
 pub mod Parts
+pub mod Figures
 pub mod Limit
 pub mod Reasons
 pub mod Squares
