@@ -79,5 +79,5 @@ pub record Compared (s : ℤ) (m m' : M2N) (μ μ' p : Float) (w w' : Walked) : 
   pub trails : walk_trail m' μ' p ≡ map (scale_step s) (walk_trail m μ p)
 
 -- ---- the demand, of what two walks return: w from m and μ, w' from m' and μ', both from the weight p
-abbrev pub WalksScale : M2N → Float → M2N → Float → Float → Walked → Walked → Type 0
-WalksScale m μ m' μ' p w w' = (s : ℤ) → Twins s m m' μ μ' → T (fair_walk m μ p) → T (fair_walk m' μ' p) → Compared s m m' μ μ' p w w'
+abbrev pub WalksScale : (m m' : M2N) (μ μ' p : Float) (w w' : Walked) → Type 0
+WalksScale m m' μ μ' p w w' = (s : ℤ) → Twins s m m' μ μ' → T (fair_walk m μ p) → T (fair_walk m' μ' p) → Compared s m m' μ μ' p w w'

@@ -18,7 +18,7 @@ pub struct Both {
 pub fn walk_both(m: M2N, mu_2: f64, n: M2N, nu_2: f64, p_1: f64) -> Both
     ensures first { result.first ≡ walk_of m mu_2 p_1 }
     ensures second { result.second ≡ walk_of n nu_2 p_1 }
-    ensures alike { WalksScale m mu_2 n nu_2 p_1 result.first result.second }
+    ensures alike { WalksScale m n mu_2 nu_2 p_1 result.first result.second }
 {
     let first = walk::iterate_from(m, mu_2, p_1);
     let second = walk::iterate_from(n, nu_2, p_1);
