@@ -1,4 +1,4 @@
--- Walks for which what `WalksScale` asks holds, each by computation, so that it is not empty: on M = (1, 4.5, 16, 81.5, 416), on four and on five of them, one that is spent, one that settles and one that ends inadmissible, each with its twins for three s. Assumes nothing.
+-- Walks for which what `WalksScale` asks holds, each by computation, so that it is not empty: on M = (1, 4.5, 16, 81.5, 416), on four and on five of them, one that is spent, one that settles and one that ends inadmissible, with a twin or three each. Assumes nothing.
 use mathlib.Core.Path.{◌≡◌, refl, sym, ap, ◌∙◌}
 use mathlib.Core.List.{List, [], ◌∷◌}
 use Prim.Native.Nat.{ℕ, zero, suc, ◌+◌}
@@ -80,6 +80,18 @@ module _ (m : M2N) (μ p : Float) where
       (record { variants = refl; tolerances = refl; limits = refl; numbers = refl; moments = λ k _. grown_at s 0 m.moments k ∙ ap (λ (n : ℕ). scale (pos (suc n) *ℤ s) (get_or m.moments k nan)) (zero-add k); means = refl })
       (and_r given _ f) (and_r (scaled s) _ h)
 
+  abbrev fair_twins : List ℤ → Bool
+  fair_twins [] = true
+  fair_twins (s ∷ l) = fair_twin s && fair_twins l
+
+  abbrev AllHold : List ℤ → Type 0
+  AllHold [] = Unit {0}
+  AllHold (s ∷ l) = Holds s × AllHold l
+
+  all_asked : T (given && fair_walk m μ p) → (l : List ℤ) → T (fair_twins l) → AllHold l
+  all_asked f [] h = tt
+  all_asked f (s ∷ l) h = (asked f s (and_l (fair_twin s) (fair_twins l) h), all_asked f l (and_r (fair_twin s) (fair_twins l) h))
+
 -- ---- walks on M
 -- a / b
 abbrev part : ℕ → ℕ → Float
@@ -91,39 +103,25 @@ M = record { m_1 = whole 1; m_2 = half 9; m_3 = whole 16; m_4 = half 163; m_5 = 
 abbrev on_M : (variant limit : ℕ) (tolerance : Float) → M2N
 on_M variant limit tolerance = record (example_state M) { variant = variant; max_iter = limit; epsilon = tolerance }
 
--- a walk ends after so many steps for this reason, and the theorem holds of it and its twins by 2, by 1/8 and by a large power of two
-pub record Example (m : M2N) (μ p : Float) (count : ℕ) (reason : Reason) (large : ℤ) : Type 0 where
+-- a walk ends after so many steps for this reason, and the theorem holds of it and its twin for each s of the list
+pub record Example (m : M2N) (μ p : Float) (count : ℕ) (reason : Reason) (l : List ℤ) : Type 0 where
   pub ends : (walk_of m μ p).outcome ≡ Ok (record { count = count; reason = reason })
-  pub doubled : Holds m μ p (pos 1)
-  pub eighth : Holds m μ p (negsuc 2)
-  pub enlarged : Holds m μ p large
+  pub twins : AllHold m μ p l
 
-shown : (m : M2N) (μ p : Float) (count : ℕ) (reason : Reason) (large : ℤ) → (walk_of m μ p).outcome ≡ Ok (record { count = count; reason = reason })
-    → T (given m μ p && fair_walk m μ p) → T (fair_twin m μ p (pos 1)) → T (fair_twin m μ p (negsuc 2)) → T (fair_twin m μ p large) → Example m μ p count reason large
-shown m μ p count reason large e f a b c = record { ends = e; doubled = asked m μ p f (pos 1) a; eighth = asked m μ p f (negsuc 2) b; enlarged = asked m μ p f large c }
+-- by 2; by 1/8; by a large power of two
+pub record Examples (variant : ℕ) (large : ℤ) (tolerance μ p : Float) : Type 0 where
+  pub spent : Example (on_M variant 2 (part 1 1048576)) (whole 2) (part 5 8) 2 Spent (pos 1 ∷ negsuc 2 ∷ large ∷ [])
+  pub settled : Example (on_M variant 100 tolerance) μ p 2 Settled (pos 1 ∷ [])
+  pub inadmissible : Example (on_M variant 100 (part 1 1048576)) (half 5) (half 1) 2 Inadmissible (negsuc 2 ∷ [])
 
-pub record OnFour : Type 0 where
-  pub spent : Example (on_M 1 2 (part 1 1048576)) (whole 2) (part 5 8) 2 Spent (pos 200)
-  pub settled : Example (on_M 1 100 (part 1 8)) (half 3) (part 5 8) 2 Settled (pos 200)
-  pub inadmissible : Example (on_M 1 100 (part 1 1048576)) (half 5) (half 1) 2 Inadmissible (pos 200)
+shown : (m : M2N) (μ p : Float) (count : ℕ) (reason : Reason) (l : List ℤ) → (walk_of m μ p).outcome ≡ Ok (record { count = count; reason = reason })
+    → T (given m μ p && fair_walk m μ p) → T (fair_twins m μ p l) → Example m μ p count reason l
+shown m μ p count reason l e f h = record { ends = e; twins = all_asked m μ p f l h }
 
-pub on_four : OnFour
+pub on_four : Examples 1 (pos 200) (part 1 8) (half 3) (part 5 8)
 unfolding fits fair_walk walk_of step_for step_4 met_by abs_of sized sum_is_zero difference_is_zero product_is_zero quotient_is_zero power_of root round of_int add mul sub div neg eq lt le
-on_four = record {
-  spent = shown _ _ _ _ _ _ refl tt tt tt tt;
-  settled = shown _ _ _ _ _ _ refl tt tt tt tt;
-  inadmissible = shown _ _ _ _ _ _ refl tt tt tt tt;
-}
+on_four = record { spent = shown _ _ _ _ _ _ refl tt tt; settled = shown _ _ _ _ _ _ refl tt tt; inadmissible = shown _ _ _ _ _ _ refl tt tt }
 
-pub record OnFive : Type 0 where
-  pub spent : Example (on_M 2 2 (part 1 1048576)) (whole 2) (part 5 8) 2 Spent (pos 150)
-  pub settled : Example (on_M 2 100 (part 1 64)) (half 5) (part 13 16) 2 Settled (pos 150)
-  pub inadmissible : Example (on_M 2 100 (part 1 1048576)) (half 5) (half 1) 2 Inadmissible (pos 150)
-
-pub on_five : OnFive
+pub on_five : Examples 2 (pos 150) (part 1 64) (half 5) (part 13 16)
 unfolding fits fair_walk walk_of step_for step_5 met_by abs_of sized sum_is_zero difference_is_zero product_is_zero quotient_is_zero power_of root round of_int add mul sub div neg eq lt le
-on_five = record {
-  spent = shown _ _ _ _ _ _ refl tt tt tt tt;
-  settled = shown _ _ _ _ _ _ refl tt tt tt tt;
-  inadmissible = shown _ _ _ _ _ _ refl tt tt tt tt;
-}
+on_five = record { spent = shown _ _ _ _ _ _ refl tt tt; settled = shown _ _ _ _ _ _ refl tt tt; inadmissible = shown _ _ _ _ _ _ refl tt tt }
