@@ -3,8 +3,9 @@ use Rattle.std.specs.Prelude.{ℕ, ◌-◌, ◌/◌, ◌^◌, min, Option, None,
 use Rattle.budget.specs.Budget.{budget_sizes}
 use Rattle.bet_sizing.specs.declared.counts.Side.TheVariants.{Long, Short}
 use Rattle.bet_sizing.specs.Counts.{concurrent_counts}
-use Rattle.bet_sizing.specs.Refusals.{list_after, spans_refusal}
+use Rattle.bet_sizing.specs.Refusals.{list_after, spans_rules}
 use Rattle.refusal.specs.Numbers.{Checked, unless_refused}
+use Rattle.refusal.specs.Rules.{first_refusal}
 use Rattle.refusal.specs.declared.Refusal.{Refusal}
 use Rattle.text.specs.Decode.{Got, got}
 use Rattle.protocol.specs.Words.{next_natural}
@@ -51,7 +52,7 @@ asked size = do
 
 -- what is turned away where the answer has so many places
 abbrev pub refusal : Asked → ℕ → Checked
-refusal a places = spans_refusal (length a.starts) (length a.ends) (length a.sides) (min a.room places)
+refusal a places = first_refusal (spans_rules (length a.starts) (length a.ends) (length a.sides) (min a.room places))
 
 -- what comes of a check: a row for each span, where nothing is refused
 abbrev pub rows : Columns → Asked → Checked → Result SpanRows Refusal

@@ -3,10 +3,11 @@ use Rattle.std.specs.Prelude.{◌≡◌, refl, false, Ok, Err, List, [], ◌∷�
 use Rattle.std.specs.Float.{nan, binary64}
 use Rattle.std.specs.Float.Ieee.{of_bits, lt}
 use Rattle.float.specs.Constants.{nought}
+use Rattle.refusal.specs.Rules.{first_refusal}
 use Rattle.refusal.specs.declared.Refusal.TheVariants.{TooLittleRoom, TooLarge, UnequalLengths}
 use Rattle.bet_sizing.specs.declared.counts.Side.TheVariants.{Long, Short}
 use Rattle.bet_sizing.specs.Counts.{concurrent, live}
-use Rattle.bet_sizing.specs.Refusals.{spans_refusal}
+use Rattle.bet_sizing.specs.Refusals.{spans_rules}
 
 -- the spans of the sheet: 0 to 10 long, 5 to 15 short, 10 to 20 long
 abbrev pub starts : List ℤ
@@ -39,5 +40,5 @@ unfolding concurrent lt
 flat_sides = refl
 
 -- the refusals, in their order
-refusals : (spans_refusal 16385 3 16385 0 ∷ spans_refusal 16385 16385 16385 0 ∷ spans_refusal 4 4 4 3 ∷ spans_refusal 4 4 4 4 ∷ []) ≡ Err UnequalLengths ∷ Err TooLarge ∷ Err TooLittleRoom ∷ Ok tt ∷ []
+refusals : (first_refusal (spans_rules 16385 3 16385 0) ∷ first_refusal (spans_rules 16385 16385 16385 0) ∷ first_refusal (spans_rules 4 4 4 3) ∷ first_refusal (spans_rules 4 4 4 4) ∷ []) ≡ Err UnequalLengths ∷ Err TooLarge ∷ Err TooLittleRoom ∷ Ok tt ∷ []
 refusals = refl

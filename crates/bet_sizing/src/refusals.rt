@@ -1,6 +1,7 @@
 // What the counts turn away, in document 01's order.
 ghost use Rattle.std.specs.Prelude.{◌≡◌};
-ghost use Rattle.bet_sizing.specs.Refusals.{spans_refusal};
+ghost use Rattle.bet_sizing.specs.Refusals.{spans_rules};
+ghost use Rattle.refusal.specs.Rules.{first_refusal};
 
 use refusal::Refusal;
 
@@ -11,7 +12,7 @@ pub(crate) fn check_spans(
     sides: usize,
     room: usize,
 ) -> Result<(), Refusal>
-    ensures { result ≡ spans_refusal starts ends sides room }
+    ensures { result ≡ first_refusal (spans_rules starts ends sides room) }
 {
     if ends != starts || sides != starts {
         return Err(Refusal::UnequalLengths);

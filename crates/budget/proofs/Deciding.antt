@@ -8,11 +8,12 @@ use lib.Seq.{take_at}
 use lib.IntN.{ℤ}
 use lib.Ieee.{Float}
 use Rattle.std.specs.Prelude.{Result, Ok}
+use Rattle.refusal.specs.Rules.{first_refusal}
 use Rattle.refusal.specs.declared.Refusal.{Refusal}
 use Rattle.bet_sizing.specs.declared.counts.Side.{Side}
 use Rattle.bet_sizing.specs.declared.counts.Side.TheVariants.{Long, Short}
 use Rattle.bet_sizing.specs.Counts.{concurrent, concurrent_counts, whole}
-use Rattle.bet_sizing.specs.Refusals.{ConcurrentSides, counts_refusal, list_after, spans_refusal}
+use Rattle.bet_sizing.specs.Refusals.{ConcurrentSides, counts_refusal, list_after, spans_rules}
 use Rattle.bet_sizing.proofs.Refusing.{accepted, accepted_in}
 use Rattle.budget.specs.Budget.{BetSizeBudget, budget_sizes, largest}
 use Rattle.budget.specs.Sizes.{sizes_of}
@@ -29,7 +30,7 @@ module _ {ss es : List ℤ} {ds long long' short short' : List Float} {counted :
 
   pub written : (size size' : List Float) → n ≤ length size → size' ≡ sizes_of (take n long') (take n short') ++ drop (length (take n long')) size → BetSizeBudget ss es ds size size' (Ok n)
   written size size' l g =
-      let none_either : spans_refusal (length ss) (length es) (length ds) (length size) ≡ Ok tt = accepted_in (length ss) (length es) (length ds) (min (length long) (length short)) (length size) none.0 (omega (arith, none.1)) in
+      let none_either : first_refusal (spans_rules (length ss) (length es) (length ds) (length size)) ≡ Ok tt = accepted_in (length ss) (length es) (length ds) (min (length long) (length short)) (length size) none.0 (omega (arith, none.1)) in
       let f : ℤ → Float = λ t. whole (concurrent Long t ss es ds) in
       let sized : size' ≡ budget_sizes ss es ds ++ drop (length ss) size =
       rw (counts Long long' long h.longs, counts Short short' short h.shorts, length-map ss f) at g

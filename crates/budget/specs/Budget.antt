@@ -6,8 +6,9 @@ use Rattle.float.specs.Constants.{nought}
 use Rattle.float.specs.Leaves.{larger_of}
 use Rattle.bet_sizing.specs.declared.counts.Side.TheVariants.{Long, Short}
 use Rattle.bet_sizing.specs.Counts.{concurrent, concurrent_counts, whole}
-use Rattle.bet_sizing.specs.Refusals.{list_after, spans_refusal}
+use Rattle.bet_sizing.specs.Refusals.{list_after, spans_rules}
 use Rattle.refusal.specs.Numbers.{Checked, unless_refused}
+use Rattle.refusal.specs.Rules.{first_refusal}
 use Rattle.refusal.specs.declared.Refusal.{Refusal}
 
 -- the larger of a number and of counts, one after another
@@ -36,7 +37,7 @@ budget_sizes ss es ds = map (budget_size ss es ds) ss
 
 -- what it turns away
 abbrev pub budget_refusal : List ℤ → List ℤ → List Float → List Float → Checked
-budget_refusal ss es ds size = spans_refusal (length ss) (length es) (length ds) (length size)
+budget_refusal ss es ds size = first_refusal (spans_rules (length ss) (length es) (length ds) (length size))
 
 -- bet_size_budget: its answer, and the lent list before and after it
 pub record BetSizeBudget (ss es : List ℤ) (ds size size' : List Float) (answer : Result ℕ Refusal) : Type 0 where

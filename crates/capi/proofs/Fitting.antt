@@ -5,7 +5,7 @@ use Prim.Native.Nat.{ℕ, ◌≤◌, ◌<◌}
 use lib.ListN.{length}
 use lib.Ieee.{Float}
 use borrow.Author.Tests.{lt-ltb, le-ltb}
-use Rattle.walk.specs.declared.M2N.{M2N}
+use Rattle.fit_state.specs.declared.M2N.{M2N}
 use Rattle.grid.specs.Search.{Fitted, single_fit}
 use Rattle.std.proofs.Common.{Option, Err, ◌⊎◌, inl, inr}
 use Rattle.refusal.specs.declared.Refusal.TheVariants.{TooLittleRoom}

@@ -6,9 +6,9 @@ use lib.Ieee.{Float}
 use lib.ListN.{length, drop}
 use lib.Seq.{take_all}
 use Rattle.capi_states.specs.States.{with_front}
-use Rattle.grid_rows.proofs.Places.{row_within}
-use Rattle.grid_rows.specs.FitResultRow.{six, with_row_in}
-use Rattle.grid_rows.specs.declared.FitResultRow.{FitResultRow}
+use Rattle.fit_state.proofs.Places.{row_within}
+use Rattle.fit_state.specs.Rows.{six, with_row_in}
+use Rattle.fit_state.specs.declared.row.FitResultRow.{FitResultRow}
 
 front_whole : (l numbers : List Float) → length numbers ≤ length l → with_front l numbers ≡ numbers ++ drop (length numbers) l
 front_whole l numbers h = rw (take_all (length l) numbers h)

@@ -6,8 +6,8 @@ use native.Mathlib.Omega.{arith}
 use lib.ListN.{length}
 use lib.Ieee.{Float}
 use borrow.Author.Tests.{lt-ltb, le-ltb}
-use Rattle.walk.specs.declared.M2N.{M2N}
-use Rattle.fit_runs.proofs.Flats.{length_flat_64}
+use Rattle.fit_state.specs.declared.M2N.{M2N}
+use Rattle.fit_state.proofs.Flats.{length_flat_64}
 use Rattle.fit_runs.proofs.Running.{count_is, few_rows}
 use Rattle.std.proofs.Common.{Err}
 use Rattle.refusal.specs.declared.Refusal.TheVariants.{TooLittleRoom}

@@ -6,7 +6,8 @@ ghost use Rattle.refusal.specs.Numbers.{status_of};
 ghost use Rattle.capi.specs.Fits.{MpFitLeaves, Roomy, SingleFitLeaves, filled_of, fitted, how_many, outcome_of, override_of, ran, with_best};
 
 use fit_runs::Flat;
-use grid::{FitResultRow, Fitted};
+use fit_state::FitResultRow;
+use grid::Fitted;
 use refusal::Refusal;
 
 // C has no optional number: an empty slice stands for none.

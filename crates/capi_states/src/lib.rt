@@ -4,8 +4,8 @@
 ghost use Rattle.std.specs.Prelude.{◌≡◌};
 ghost use Rattle.capi_states.specs.States.{first, state_of, with_front, with_params, with_state};
 
+use fit_state::{Fit, M2N};
 use moments::{Five, Params};
-use walk::M2N;
 
 // The first N numbers of a list, and zeros where it has fewer.
 fn first<const N: usize>(l: &[f64]) -> [f64; N]
@@ -29,6 +29,11 @@ pub fn state_of(
     ensures { result ≡ state_of moments.now variant factor max_iter n_runs fit.now }
 {
     let numbers = first::<12>(fit);
+    let fit = Fit {
+        new_moments: Five::from(first(&numbers[7..])),
+        parameters: Params::from(first(&numbers)),
+        error: numbers[5],
+    };
     M2N {
         moments: first(moments),
         len: moments.len(),
@@ -37,9 +42,7 @@ pub fn state_of(
         n_runs,
         variant,
         max_iter,
-        new_moments: Five::from(first(&numbers[7..])),
-        parameters: Params::from(first(&numbers)),
-        error: numbers[5],
+        ..M2N::from(fit)
     }
 }
 

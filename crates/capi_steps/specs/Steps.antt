@@ -1,6 +1,7 @@
 -- What the C functions of a step answer, and what they leave in the lent places. Definitions only.
-use Rattle.std.specs.Prelude.{◌≡◌, cond, List, ℕ, ltb, length, Float, Result, Ok, Err}
-use Rattle.refusal.specs.Numbers.{status_of}
+use Rattle.std.specs.Prelude.{◌≡◌, List, [], ◌∷◌, ℕ, ltb, length, Float, Result, Ok, Err}
+use Rattle.refusal.specs.Numbers.{status_of, unless_refused}
+use Rattle.refusal.specs.Rules.{Rule, ◌⇒◌, first_refusal}
 use Rattle.refusal.specs.declared.Refusal.{Refusal}
 use Rattle.refusal.specs.declared.Refusal.TheVariants.{TooLittleRoom}
 use Rattle.step.specs.declared.Step.{Step}
@@ -16,9 +17,12 @@ abbrev pub with_step : List Float → Step → List Float
 with_step before Inadmissible = before
 with_step before (Admitted p) = with_params before p
 
--- a step has five numbers: with fewer places it is refused, inadmissible or not
+-- five places are needed, whether the step is admitted or not; tested after what the step turns away
+abbrev pub places_rules : List Float → List Rule
+places_rules numbers = ltb (length numbers) 5 ⇒ TooLittleRoom ∷ []
+
 abbrev pub roomed : Result Step Refusal → List Float → Result Step Refusal
-roomed (Ok s) numbers = cond (ltb (length numbers) 5) (Err TooLittleRoom) (Ok s)
+roomed (Ok s) numbers = unless_refused (first_refusal (places_rules numbers)) s
 roomed (Err e) numbers = Err e
 
 -- what stands in the lent places after: a refusal leaves them as they were

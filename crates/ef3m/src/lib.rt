@@ -1,44 +1,34 @@
-// The Rust's call with `&mut self`: a state lent to one search.
+// The Rust's call with `&mut self`: a state lent to one search. It is no method, since `M2N` is a type of a
+// crate below the grid.
 #![tactic(auto)]
 
 ghost use Rattle.std.specs.Prelude.{◌≡◌};
 ghost use Rattle.grid.specs.Search.{single_fit};
 
-use grid::{FitResultRow, Fitted};
+use fit_state::{FitResultRow, M2N};
+use grid::Fitted;
 use refusal::Refusal;
-use walk::M2N;
 
-// The fit state, in a type of this crate, so that it can have a method.
-#[derive(Clone, Copy)]
-pub struct Fitter {
-    pub m2n: M2N,
+// One search, which leaves the state in the one that is lent.
+pub fn single_fit_loop(
+    m: &mut M2N,
+    epsilon_override: Option<f64>,
+    weights: &[f64],
+) -> Result<Option<FitResultRow>, Refusal>
+    ensures { (result ≡ (single_fit m.old epsilon_override weights.now).outcome)
+        × (m.new ≡ (single_fit m.old epsilon_override weights.now).state) }
+{
+    let fitted = grid::single_fit_loop(*m, epsilon_override, weights);
+    *m = fitted.state;
+    fitted.outcome
 }
 
-impl Fitter {
-    // One search, which leaves the state in the fitter.
-    pub fn single_fit_loop(
-        &mut self,
-        epsilon_override: Option<f64>,
-        weights: &[f64],
-    ) -> Result<Option<FitResultRow>, Refusal>
-        ensures { (result ≡ (single_fit self.old.m2n epsilon_override weights.now).outcome)
-            × (self.new.m2n ≡ (single_fit self.old.m2n epsilon_override weights.now).state) }
-    {
-        let fitted = grid::single_fit_loop(self.m2n, epsilon_override, weights);
-        self.m2n = fitted.state;
-        fitted.outcome
-    }
-}
-
-// The method by value. `search_requests` calls it in place of grid's function, so that what the programs
+// The same by value. `search_requests` calls it in place of grid's function, so that what the programs
 // answer, and what is compared with the Rust, is the lent form itself.
 pub fn single_fit_through(m: M2N, epsilon_override: Option<f64>, weights: &[f64]) -> Fitted
     ensures { result ≡ single_fit m epsilon_override weights.now }
 {
-    let mut fitter = Fitter { m2n: m };
-    let outcome = fitter.single_fit_loop(epsilon_override, weights);
-    Fitted {
-        state: fitter.m2n,
-        outcome,
-    }
+    let mut state = m;
+    let outcome = single_fit_loop(&mut state, epsilon_override, weights);
+    Fitted { state, outcome }
 }

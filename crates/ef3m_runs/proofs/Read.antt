@@ -7,11 +7,12 @@ use lib.ListN.{length, drop}
 use lib.Ieee.{Float}
 use Rattle.std.proofs.Common.{Ok, Err}
 use Rattle.refusal.specs.declared.Refusal.{Refusal}
-use Rattle.walk.specs.declared.M2N.{M2N}
-use Rattle.fit_runs.specs.Runs.{rows_at, run_rows, flat_fit, mp_fit, mp_rows}
-use Rattle.grid_rows.specs.declared.FitResultRow.{FitResultRow}
+use Rattle.fit_state.specs.declared.M2N.{M2N}
+use Rattle.fit_state.specs.Rows.{rows_at}
+use Rattle.fit_runs.specs.Runs.{run_rows, flat_fit, mp_fit, mp_rows}
+use Rattle.fit_state.specs.declared.row.FitResultRow.{FitResultRow}
 use Rattle.fit_runs.specs.declared.Flat.{Flat}
-use Rattle.fit_runs.proofs.Flats.{length_flat_64}
+use Rattle.fit_state.proofs.Flats.{length_flat_64}
 use Rattle.fit_runs.proofs.Running.{few_rows, flat_rows, count_is, none_run}
 
 pub outcome_is : (m : M2N) (weights : List Float) (places : ℕ) (r : Flat) → r ≡ flat_fit m weights places → r.outcome ≡ mp_fit m weights places

@@ -2,11 +2,11 @@
 #![tactic(auto)]
 
 ghost use Rattle.std.specs.Prelude.{◌≡◌, ◌++◌, ◌+◌, ◌*◌, ◌≤◌, length, drop};
-ghost use Rattle.fit_runs.specs.Runs.{mp_fit, mp_rows, rows_at};
+ghost use Rattle.fit_runs.specs.Runs.{mp_fit, mp_rows};
+ghost use Rattle.fit_state.specs.Rows.{rows_at};
 
-use grid::FitResultRow;
+use fit_state::{FitResultRow, M2N};
 use refusal::Refusal;
-use walk::M2N;
 
 // The first n rows come from flat numbers, and the others stay. They are put by index: of what goes through
 // a zip of `iter_mut` a proof knows no element afterwards.

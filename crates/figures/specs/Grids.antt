@@ -12,15 +12,15 @@ use Rattle.moments.specs.Mixture.{get_moments}
 use Rattle.moments.specs.Orders.{centred_sum}
 use Rattle.step.specs.Steps.{step_4, step_5}
 use Rattle.refusal.specs.Numbers.{status_of}
-use Rattle.walk.specs.Figures.{example_state}
+use Rattle.fit_state.specs.Figures.{example_state}
 use Rattle.walk.specs.Trail.{step_for}
-use Rattle.walk.specs.Squares.{sum_of_squares}
-use Rattle.walk.specs.Walk.{error_of, walk_of}
-use Rattle.walk.specs.declared.M2N.{M2N}
-use Rattle.fit_refusals.specs.Refusals.{rows_of, grid_refusal}
-use Rattle.grid.specs.Rows.{begun, centred_state, moved_error}
-use Rattle.fit_runs.specs.Runs.{rows_in, flat_of}
-use Rattle.grid.specs.Search.{deviation_of, fit_of}
+use Rattle.fit_state.specs.Errors.{sum_of_squares, error_of}
+use Rattle.walk.specs.Walk.{walk_of}
+use Rattle.fit_state.specs.declared.M2N.{M2N}
+use Rattle.fit_refusals.specs.Refusals.{rows_of, all_weights, grid_refusal}
+use Rattle.fit_state.specs.Search.{begun, centred_state, moved_error, deviation_of}
+use Rattle.fit_state.specs.Rows.{rows_in, flat_of}
+use Rattle.grid.specs.Search.{fit_of}
 use Rattle.grid_rows.specs.Rows.{mean_of}
 use Rattle.figures.specs.Figures.{five, M}
 
@@ -41,7 +41,7 @@ abbrev refusal_at : ℕ → ℕ
 refusal_at n = status_of (grid_refusal (on_M 1 (part n)) (part n) 1 [])
 
 pub refusals_at : (refusal_at 1 ∷ refusal_at 2 ∷ refusal_at 131072 ∷ refusal_at 262144 ∷ []) ≡ 0 ∷ 6 ∷ 6 ∷ 5 ∷ []
-unfolding grid_refusal rows_of upper_of larger_of sub div eq lt round to_unsigned
+unfolding grid_refusal rows_of all_weights upper_of larger_of sub div eq lt round to_unsigned
 refusals_at = refl
 
 -- the row of a search with epsilon 1/4 and the weight 1/2 three times

@@ -1,8 +1,8 @@
 -- Document 01's figures of the walk, for a variant: "Walk on M from (2, 0.5), epsilon 0.25, error 179975.5 before: 1 step, error 0, settled; with `max_iter` 1, spent; with 0, 0 steps, spent."
 use Rattle.std.specs.Prelude.{◌≡◌, ℕ, Ok}
-use Rattle.walk.specs.Figures.{example_state}
+use Rattle.fit_state.specs.Figures.{example_state}
 use Rattle.walk.specs.Walk.{Walked, walk_of}
-use Rattle.walk.specs.declared.M2N.{M2N}
+use Rattle.fit_state.specs.declared.M2N.{M2N}
 use Rattle.walk.specs.declared.Reason.TheVariants.{Settled, Spent}
 use Rattle.figures.specs.Figures.{◌·◌, five, M}
 

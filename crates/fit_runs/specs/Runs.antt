@@ -1,20 +1,15 @@
 -- Several runs (the Rust's mp_fit): each starts from a copy of the state and takes the next weights. Definitions only.
-use Rattle.std.specs.Prelude.{List, [], ◌∷◌, ◌++◌, ℕ, zero, suc, ◌*◌, ◌-◌, ◌≤◌, length, drop, replicate, Float, Option, Some, None, Result, Ok, Err}
-use Rattle.float.specs.Constants.{nought}
+use Rattle.std.specs.Prelude.{List, [], ◌++◌, ℕ, zero, suc, ◌*◌, ◌≤◌, length, drop, Float, Option, Some, None, Result, Ok, Err}
 use Rattle.refusal.specs.Numbers.{Checked, unless_refused}
 use Rattle.refusal.specs.declared.Refusal.{Refusal}
-use Rattle.walk.specs.declared.M2N.{M2N}
+use Rattle.fit_state.specs.declared.M2N.{M2N}
 use Rattle.fit_refusals.specs.Refusals.{rows_of, runs_refusal}
 use Rattle.grid.specs.Search.{single_fit}
-use Rattle.grid_rows.specs.FitResultRow.{six, row_at, with_row_at}
-use Rattle.grid_rows.specs.declared.FitResultRow.{FitResultRow}
+use Rattle.fit_state.specs.Rows.{flat_in64, rows_in, with_row_at}
+use Rattle.fit_state.specs.declared.row.FitResultRow.{FitResultRow}
 use Rattle.fit_runs.specs.declared.Flat.{Flat}
 
--- a run gives at most one row
-abbrev pub rows_in : Option FitResultRow → List FitResultRow
-rows_in None = []
-rows_in (Some r) = r ∷ []
-
+-- the rows of a run: at most one, and none where it is refused
 abbrev pub rows_out : Result (Option FitResultRow) Refusal → List FitResultRow
 rows_out (Ok best) = rows_in best
 rows_out (Err e) = []
@@ -43,21 +38,6 @@ mp_fit m weights places = unless_refused (runs_refusal m weights places) (length
 unfoldable pub mp_rows : M2N → List Float → List FitResultRow → List FitResultRow
 unfolding run_rows
 mp_rows m weights rows = let written = run_rows m weights (length rows) in written ++ drop (length written) rows
-
--- ---- rows as flat numbers, six each
-unfoldable pub flat_of : List FitResultRow → List Float
-flat_of [] = []
-flat_of (r ∷ rows) = six r ++ flat_of rows
-
--- the rows in a flat list of 64 places, zeros behind them
-unfoldable pub flat_in64 : List FitResultRow → List Float
-unfolding flat_of
-flat_in64 rows = flat_of rows ++ replicate (384 - length (flat_of rows)) nought
-
--- the first n rows of flat numbers
-unfoldable pub rows_at : List Float → ℕ → List FitResultRow
-rows_at numbers zero = []
-rows_at numbers (suc i) = rows_at numbers i ++ (row_at numbers i ∷ [])
 
 -- ---- what the parts promise each other
 -- runs that are not refused: at most 64, and where there is one the weights serve all

@@ -4,9 +4,8 @@
 ghost use Rattle.std.specs.Prelude.{◌≡◌, ◌+◌, ◌*◌, ◌≤◌, length};
 ghost use Rattle.fit_runs.specs.Runs.{Runnable, all_runs, flat_fit, put_in, rows_out};
 
-use grid::FitResultRow;
+use fit_state::{FitResultRow, M2N};
 use refusal::Refusal;
-use walk::M2N;
 
 // The rows of several runs as flat numbers, six each, zeros behind them; and how many rows there are, or
 // why there are none. C reads a row as six numbers. There is no heap, so it has the places of the most rows,

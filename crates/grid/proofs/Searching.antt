@@ -1,24 +1,20 @@
 -- One search, part by part: each part's answer put into the definition's place. Assumes nothing.
-use mathlib.Core.Path.{◌≡◌, sym, ap, ◌∙◌}
+use mathlib.Core.Path.{◌≡◌, ap, ◌∙◌}
 use mathlib.Core.List.{List}
 use Prim.Native.Nat.{ℕ, ◌≤◌, min}
 use native.Mathlib.Omega.{arith}
 use lib.ListN.{length, take}
 use lib.Ieee.{Float}
-use Rattle.moments.specs.Mixture.{get_moments}
-use Rattle.moments.specs.declared.Params.{Params}
-use Rattle.walk.specs.Walk.{error_of}
-use Rattle.walk.specs.declared.M2N.{M2N}
+use Rattle.fit_state.specs.declared.M2N.{M2N}
 use Rattle.fit_refusals.specs.Refusals.{rows_of, grid_refusal}
 use Rattle.grid_rows.proofs.First.{first_enough}
 use Rattle.grid_rows.specs.Rows.{search_to}
-use Rattle.grid_rows.specs.FitResultRow.{params_in, row_of}
 use Rattle.grid_rows.specs.declared.Search.{Search}
-use Rattle.grid.specs.Rows.{begun, centred_state, moved, moved_error, moved_state, moved_best}
-use Rattle.grid.specs.Search.{in_force, deviation_of, found_by, plain_fit, centred_fit, fit_of, answered, single_fit, Served}
-use Rattle.grid_rows.specs.declared.FitResultRow.{FitResultRow}
+use Rattle.fit_state.specs.Search.{begun, centred_state, moved_state, deviation_of}
+use Rattle.grid.specs.Search.{in_force, moved_best, found_by, plain_fit, centred_fit, fit_of, answered, single_fit, Served}
+use Rattle.fit_state.specs.declared.row.FitResultRow.{FitResultRow}
 use Rattle.refusal.specs.declared.Refusal.{Refusal}
-use Rattle.std.proofs.Common.{Option, Some, Ok, Err}
+use Rattle.std.proofs.Common.{Option, Ok, Err}
 use Rattle.grid.specs.declared.search.Searched.{Searched}
 
 -- walked from the first weights alone
@@ -27,12 +23,6 @@ unfolding plain_fit
 plain_is m epsilon weights b d n s h hb hd hn hs =
     let first = first_enough b d weights n (omega arith) (omega arith) in
     ap found_by (hs ∙ first ∙ ap (λ x. search_to x d weights n) hb ∙ ap (λ x. search_to (begun m epsilon) x weights n) hd ∙ ap (search_to (begun m epsilon) (deviation_of m) weights) hn)
-
--- the mean added back to the row, with its error
-pub moved_row : (m : M2N) (best : Option FitResultRow) (r x : FitResultRow) (p q : Params) (e : Float) → best ≡ Some r → p ≡ params_in r → q ≡ moved m p → e ≡ error_of m (get_moments q) → x ≡ row_of q e → Some x ≡ moved_best m best
-unfolding moved_best moved_error
-moved_row m best r x p q e hb hp hq he hx =
-    ap Some (hx ∙ ap (row_of q) he ∙ ap (λ y. row_of y (error_of m (get_moments y))) (hq ∙ ap (moved m) hp)) ∙ ap (moved_best m) (sym hb)
 
 pub centred_is : (m : M2N) (epsilon : Float) (weights : List Float) (c : M2N) (s : Searched) (state : M2N) (best : Option FitResultRow) → c ≡ centred_state m → s ≡ plain_fit c epsilon weights → state ≡ moved_state m epsilon s.state.parameters → best ≡ moved_best m s.best → record { state = state; best = best } ≡ centred_fit m epsilon weights
 unfolding centred_fit

@@ -1,29 +1,22 @@
 -- One search over the grid (the Rust's single_fit_loop and centred_fit_loop). Definitions only.
-use Rattle.std.specs.Prelude.{List, Bool, ◌&&◌, not, cond, ◌≤◌, eqb, length, get_or, Float, Option, Ok, Err}
+use Rattle.std.specs.Prelude.{List, Bool, ◌&&◌, not, cond, ◌≤◌, eqb, length, get_or, Float, Option, None, Some, Ok, Err}
 use Rattle.std.specs.Option.{unwrap_or}
-use Rattle.std.specs.Float.{nan, binary64}
+use Rattle.std.specs.Float.{nan}
 use Rattle.std.specs.Float.Ieee.{eq}
 use Rattle.float.specs.Constants.{nought}
-use Rattle.float.specs.Root.{root}
-use Rattle.moments.specs.Orders.{centred_sum}
-use Rattle.walk.specs.declared.After.{After}
-use Rattle.walk.specs.declared.M2N.{M2N}
+use Rattle.fit_state.specs.declared.After.{After}
+use Rattle.fit_state.specs.declared.M2N.{M2N}
 use Rattle.fit_refusals.specs.Refusals.{rows_of, grid_refusal}
 use Rattle.grid_rows.specs.Rows.{search_to}
 use Rattle.grid_rows.specs.declared.Search.{Search}
-use Rattle.grid.specs.Rows.{begun, centred_state, moved_state, moved_best}
+use Rattle.fit_state.specs.Search.{begun, centred_state, deviation_of, moved_row, moved_state}
 use Rattle.grid.specs.declared.search.Searched.{Searched}
-use Rattle.grid_rows.specs.declared.FitResultRow.{FitResultRow}
+use Rattle.fit_state.specs.declared.row.FitResultRow.{FitResultRow}
 use Rattle.refusal.specs.Numbers.{Checked}
 
 -- the epsilon in force: one given for this search, or the state's own
 abbrev pub in_force : M2N → Option Float → Float
 in_force m e = unwrap_or e m.epsilon
-
--- the standard deviation that the moments imply
-unfoldable pub deviation_of : M2N → Float
-unfolding centred_sum root
-deviation_of m = root binary64 (centred_sum m.moments 2)
 
 -- the state that the walks left, and the row that they kept
 abbrev pub found_by : Search → Searched
@@ -34,9 +27,14 @@ unfoldable pub plain_fit : M2N → Float → List Float → Searched
 unfolding begun deviation_of search_to rows_of
 plain_fit m epsilon weights = found_by (search_to (begun m epsilon) (deviation_of m) weights (rows_of epsilon))
 
+-- the row moved back to the mean
+abbrev pub moved_best : M2N → Option FitResultRow → Option FitResultRow
+moved_best m None = None
+moved_best m (Some r) = Some (moved_row m r)
+
 -- about the mean, then moved back
 unfoldable pub centred_fit : M2N → Float → List Float → Searched
-unfolding plain_fit centred_state moved_state moved_best
+unfolding plain_fit centred_state moved_state moved_row
 centred_fit m epsilon weights =
     let s = plain_fit (centred_state m) epsilon weights in record { state = moved_state m epsilon s.state.parameters; best = moved_best m s.best }
 

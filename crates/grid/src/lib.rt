@@ -4,12 +4,9 @@
 ghost use Rattle.std.specs.Prelude.{◌≡◌};
 ghost use Rattle.grid.specs.Search.{single_fit};
 
-use walk::{After, M2N};
+use fit_state::{After, FitResultRow, M2N};
 
-pub mod rows; // rows.rt: where a search starts, and what is moved back to the mean after it
 pub mod search; // search.rt: a search that is not refused
-
-pub use grid_rows::FitResultRow;
 
 // A search leaves at most one row.
 pub type Fitted = After<Option<FitResultRow>>;

@@ -1,9 +1,9 @@
 // One search over the grid.
 ghost use Rattle.std.specs.Prelude.{◌≡◌};
-ghost use Rattle.grid.specs.Search.{Served, centred_fit, deviation_of, fit_of, is_centred, plain_fit};
+ghost use Rattle.grid.specs.Search.{Served, centred_fit, fit_of, is_centred, moved_best, plain_fit};
 
-use crate::{FitResultRow, rows};
-use walk::{M2N, Variant};
+use fit_state::{FitResultRow, M2N};
+use walk::Variant;
 
 // What a search leaves, and its row. Nothing is refused here, so this is no `Fitted`: that has a Result,
 // which would never be an Err, and which `centred_fit_loop` would have to look into.
@@ -11,13 +11,6 @@ use walk::{M2N, Variant};
 pub(crate) struct Searched {
     pub(crate) state: M2N,
     pub(crate) best: Option<FitResultRow>,
-}
-
-#[tactic(auto, unfolding(crate::specs::Search::deviation_of))]
-fn deviation(m: M2N) -> f64
-    ensures { result ≡ deviation_of m }
-{
-    root::sqrt(rows::centred(m, 2))
 }
 
 // On the moments as given. State, epsilon and weights stay three parameters, here and below: a struct
@@ -29,11 +22,18 @@ fn plain_fit(m: M2N, epsilon: f64, weights: &[f64]) -> Searched
     ensures { result ≡ plain_fit m epsilon weights.now }
 {
     let n = fit_refusals::rows_of(epsilon);
-    let s = grid_rows::walk_rows(rows::begin(m, epsilon), deviation(m), &weights[..n]);
+    let s = grid_rows::walk_rows(m.begun(epsilon), m.deviation(), &weights[..n]);
     Searched {
         state: s.state,
         best: s.best,
     }
+}
+
+// The row of a search about the mean, moved back to it.
+fn moved_best(m: M2N, best: Option<FitResultRow>) -> Option<FitResultRow>
+    ensures { result ≡ moved_best m best }
+{
+    Some(m.moved_row(best?))
 }
 
 // About the mean, then moved back.
@@ -41,10 +41,10 @@ fn centred_fit_loop(m: M2N, epsilon: f64, weights: &[f64]) -> Searched
     requires { Served m epsilon weights.now }
     ensures { result ≡ centred_fit m epsilon weights.now }
 {
-    let s = plain_fit(rows::centred_state(m), epsilon, weights);
+    let s = plain_fit(m.about_the_mean(), epsilon, weights);
     Searched {
-        state: rows::moved_state(m, epsilon, s.state.parameters),
-        best: rows::moved_best(m, s.best),
+        state: m.moved_back(epsilon, s.state.parameters),
+        best: moved_best(m, s.best),
     }
 }
 

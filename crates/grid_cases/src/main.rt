@@ -2,11 +2,9 @@
 // every weight 0.5: a line for each says how it ended. The rows are the Rust's.
 #![tactic(auto)]
 
-use grid::FitResultRow;
-use moments::{Five, Params};
+use fit_state::{Fit, FitResultRow, M2N};
 use refusal::Refusal;
 use std::io;
-use walk::M2N;
 
 const FINE: f64 = 1.0 / 131072.0;
 
@@ -29,9 +27,7 @@ fn on_m(variant: usize, epsilon: f64) -> M2N {
         n_runs: 1,
         variant,
         max_iter: 10,
-        new_moments: Five::default(),
-        parameters: Params::default(),
-        error: 0.0,
+        ..M2N::from(Fit::default())
     }
 }
 

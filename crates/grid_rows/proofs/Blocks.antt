@@ -16,9 +16,9 @@ use Rattle.step.specs.Steps.{sigma2_squared}
 use Rattle.walk.proofs.Stays.{same_moments, stays}
 use Rattle.walk.proofs.Trails.{five_enough}
 use Rattle.walk.specs.Walk.{five_of, walk_of}
-use Rattle.walk.specs.declared.M2N.{M2N}
+use Rattle.fit_state.specs.declared.M2N.{M2N}
 use Rattle.grid_rows.specs.Rows.{mean_of, looked, search_to}
-use Rattle.grid_rows.specs.FitResultRow.{row_of}
+use Rattle.fit_state.specs.Rows.{row_of}
 use Rattle.grid_rows.specs.declared.Search.{Search}
 
 -- what `looked` chooses by its test

@@ -4,8 +4,8 @@ use Rattle.std.specs.Float.{nan, binary64}
 use Rattle.std.specs.Float.Ieee.{add, mul, of_int, lt}
 use Rattle.step.specs.Steps.{sigma2_squared}
 use Rattle.walk.specs.Walk.{walk_of}
-use Rattle.walk.specs.declared.M2N.{M2N}
-use Rattle.grid_rows.specs.FitResultRow.{row_of}
+use Rattle.fit_state.specs.declared.M2N.{M2N}
+use Rattle.fit_state.specs.Rows.{kept_row}
 use Rattle.grid_rows.specs.declared.Search.{Search}
 
 -- the starting mean of row i: ((i * epsilon) * factor) * deviation + m_1
@@ -14,7 +14,7 @@ mean_of m deviation i = add binary64 (mul binary64 (mul binary64 (mul binary64 (
 
 -- the state after a row's walk: a strictly smaller error than any row's before it makes the row
 abbrev pub looked : Search → M2N → Search
-looked s m = cond (lt m.error s.err_min) (record { state = m; err_min = m.error; best = Some (row_of m.parameters m.error) }) (record { state = m; err_min = s.err_min; best = s.best })
+looked s m = cond (lt m.error s.err_min) (record { state = m; err_min = m.error; best = Some (kept_row m) }) (record { state = m; err_min = s.err_min; best = s.best })
 
 -- the search after the first n rows; the error carries over from row to row
 unfoldable pub search_to : M2N → Float → List Float → ℕ → Search

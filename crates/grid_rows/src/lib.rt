@@ -4,98 +4,10 @@
 ghost use Rattle.std.specs.Prelude.{◌≡◌, ◌+◌, ◌<◌, ◌≤◌, ◌^◌, min, length};
 ghost use Rattle.moments.specs.Lists.{listed};
 ghost use Rattle.walk.specs.Walk.{walk_of};
-ghost use Rattle.grid_rows.specs.FitResultRow.{params_in, row_from, row_of, six, with_row_in};
 ghost use Rattle.grid_rows.specs.Rows.{Means, Variances, looked, mean_of, search_to};
 
-use moments::{Five, Params};
-use walk::M2N;
-
-// One fitted mixture.
-#[derive(Clone, Copy, Default)]
-pub struct FitResultRow {
-    pub mu_1: f64,
-    pub mu_2: f64,
-    pub sigma_1: f64,
-    pub sigma_2: f64,
-    pub p_1: f64,
-    pub error: f64,
-}
-
-impl FitResultRow {
-    pub fn new(p: Params, error: f64) -> FitResultRow
-        ensures { result ≡ row_of p error }
-    {
-        FitResultRow {
-            mu_1: p.mu_1,
-            mu_2: p.mu_2,
-            sigma_1: p.sigma_1,
-            sigma_2: p.sigma_2,
-            p_1: p.p_1,
-            error,
-        }
-    }
-
-    // Puts the row's six numbers in place i of flat rows. Where there is no such place nothing is put.
-    #[tactic(auto, using(crate::proofs::Places::row_copied))]
-    pub fn put_at(self, numbers: &mut [f64], i: usize)
-        ensures { numbers.new ≡ with_row_in numbers.old i self }
-    {
-        if i < numbers.len() / 6 {
-            numbers[6 * i..6 * i + 6].copy_from_slice(&<[f64; 6]>::from(self));
-        }
-    }
-}
-
-impl From<FitResultRow> for Params {
-    ghost from_gives = { λ row p. p ≡ params_in row };
-
-    fn from(row: FitResultRow) -> Params
-        ensures { result ≡ params_in row }
-    {
-        Params {
-            mu_1: row.mu_1,
-            mu_2: row.mu_2,
-            sigma_1: row.sigma_1,
-            sigma_2: row.sigma_2,
-            p_1: row.p_1,
-        }
-    }
-}
-
-impl From<FitResultRow> for [f64; 6] {
-    ghost from_gives = { λ row numbers. numbers ≡ six row };
-
-    fn from(row: FitResultRow) -> [f64; 6]
-        ensures { result ≡ six row }
-    {
-        [
-            row.mu_1,
-            row.mu_2,
-            row.sigma_1,
-            row.sigma_2,
-            row.p_1,
-            row.error,
-        ]
-    }
-}
-
-impl From<[f64; 6]> for FitResultRow {
-    ghost from_gives = { λ numbers row. row ≡ row_from numbers };
-
-    fn from(numbers: [f64; 6]) -> FitResultRow
-        ensures { result ≡ row_from numbers }
-    {
-        let [mu_1, mu_2, sigma_1, sigma_2, p_1, error] = numbers;
-        Self {
-            mu_1,
-            mu_2,
-            sigma_1,
-            sigma_2,
-            p_1,
-            error,
-        }
-    }
-}
+use fit_state::{FitResultRow, M2N};
+use moments::Five;
 
 // The state, the smallest error of a row so far, and the row that has it. It goes from row to row, where
 // what a whole search leaves has no use for the smallest error.
@@ -114,7 +26,7 @@ fn look(s: Search, m: M2N) -> Search
         Search {
             state: m,
             err_min: m.error,
-            best: Some(FitResultRow::new(m.parameters, m.error)),
+            best: Some(m.kept_row()),
         }
     } else {
         Search { state: m, ..s }
@@ -180,7 +92,7 @@ impl Grid {
     {
         let block = &weights[from..];
         let means = self.means(from);
-        let variances = variances(walk::first_five(self.m), means, block);
+        let variances = variances(self.m.first_five(), means, block);
         let mut t = s;
         for j in 0..usize::min(block.len(), 256) {
             if variances[j] < 0.0 {

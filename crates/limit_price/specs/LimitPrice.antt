@@ -1,11 +1,12 @@
 -- The limit price of chapter 10 of Advances in Financial Machine Learning: the Rust's limit_price_sigmoid, line by line, the mean of inv_price_sigmoid over the lots on the way. Definitions only.
-use Rattle.std.specs.Prelude.{cond, ℕ, zero, suc, ltb, ℤ, pos, nat_abs, ◌+ℤ◌, ◌-ℤ◌, ◌*ℤ◌, Float, Result, Ok, Err}
+use Rattle.std.specs.Prelude.{List, [], ◌∷◌, ℕ, zero, suc, ltb, ℤ, pos, nat_abs, ◌+ℤ◌, ◌-ℤ◌, ◌*ℤ◌, Float, Result}
 use Rattle.std.specs.Int.{int_signum}
 use Rattle.std.specs.Float.{nan, binary64}
 use Rattle.std.specs.Float.Ieee.{of_int, to_signed}
 use Rattle.float.specs.Constants.{minus_nought}
 use Rattle.prices.specs.Prices.{◌⊕◌, ◌⊘◌, inv_price_sigmoid}
-use Rattle.refusal.specs.Numbers.{Checked, unless_refused}
+use Rattle.refusal.specs.Numbers.{unless_refused}
+use Rattle.refusal.specs.Rules.{Rule, ◌⇒◌, first_refusal}
 use Rattle.refusal.specs.declared.Refusal.{Refusal}
 use Rattle.refusal.specs.declared.Refusal.TheVariants.{TooManyLots}
 
@@ -26,13 +27,13 @@ abbrev pub mean_of : (ℕ → Float) → ℕ → Float
 mean_of x zero = nan
 mean_of x (suc n) = summed x (suc n) ⊘ of_int binary64 (pos (suc n))
 
--- more than 1,000,000 lots are not walked
-abbrev pub lots_refusal : ℕ → Checked
-lots_refusal lots = cond (ltb 1000000 lots) (Err TooManyLots) (Ok tt)
+-- document 01's entry "Limit price"
+abbrev pub lots_rules : ℕ → List Rule
+lots_rules lots = ltb 1000000 lots ⇒ TooManyLots ∷ []
 
 -- the walk over d lots, of which a negative number goes down
 abbrev pub limit_from : Float → Float → Float → ℤ → ℤ → Result Float Refusal
-limit_from f w max current d = unless_refused (lots_refusal (nat_abs d)) (mean_of (lot_price f w max current (int_signum d)) (nat_abs d))
+limit_from f w max current d = unless_refused (first_refusal (lots_rules (nat_abs d))) (mean_of (lot_price f w max current (int_signum d)) (nat_abs d))
 
 -- the positions are cut towards zero; their difference is one of whole numbers, so it is exact
 unfoldable pub limit_price_sigmoid : Float → Float → Float → Float → Float → Result Float Refusal

@@ -9,21 +9,17 @@ use lib.Dec.{ltb}
 use lib.Ieee.{Float}
 use lib.ListN.{length, take}
 use Rattle.moments.specs.Refusals.{at_least_one, centred_moment, raw_moment, raw_out}
-use Rattle.moments.specs.Orders.{centred_sum}
-use Rattle.refusal.specs.Numbers.{unless_refused}
-use Rattle.refusal.specs.declared.Refusal.TheVariants.{TooFewMoments, TooManyMoments, OrderTooHigh}
-use Rattle.std.specs.Prelude.{Ok, Err}
+use Rattle.refusal.specs.declared.Refusal.TheVariants.{TooManyMoments, OrderTooHigh}
+use Rattle.std.specs.Prelude.{Err}
 use Rattle.protocol_lists.proofs.Listing.{cut}
 
 centred_many : (order : ℕ) (m : List Float) → 16 < length m → centred_moment m order ≡ Err (cond (ltb 16 order) OrderTooHigh TooManyMoments)
 unfolding centred_moment
 centred_many order m h = by_order (ltb 16 order) refl
   where
-    by_order : (high : Bool) → ltb 16 order ≡ high → unless_refused (cond high (Err OrderTooHigh) (cond (ltb (length m) (at_least_one order)) (Err TooFewMoments) (cond (ltb 16 (length m)) (Err TooManyMoments) (Ok tt)))) (centred_sum m order) ≡ Err (cond high OrderTooHigh TooManyMoments)
-    by_order true e = refl
-    by_order false e =
-        let low = ltb-false 16 order e in
-        rw (le-ltb (length m) (at_least_one order) (omega arith), lt-ltb 16 (length m) h)
+    by_order : (high : Bool) → ltb 16 order ≡ high → centred_moment m order ≡ Err (cond high OrderTooHigh TooManyMoments)
+    by_order true e = rw e
+    by_order false e = let low = ltb-false 16 order e in rw (e, le-ltb (length m) (at_least_one order) (omega arith), lt-ltb 16 (length m) h)
 
 pub centred_cut : (order : ℕ) (m : List Float) → centred_moment (take 17 m) order ≡ centred_moment m order
 centred_cut order m = cut 16 (λ l. centred_moment l order) _ (centred_many order) m

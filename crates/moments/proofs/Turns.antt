@@ -15,7 +15,8 @@ use Rattle.formula.specs.Whole.{sum_of}
 use Rattle.moments.specs.Comb.{choose}
 use Rattle.moments.specs.Constants.{minus_one}
 use Rattle.moments.specs.Orders.{numbered, centred_term, centred_sum, raw_term, raw_sum, raw_value, firsts}
-use Rattle.moments.specs.Refusals.{at_least_one, centred_moment, centred_refusal, raw_moment, raw_out, raw_refusal}
+use Rattle.moments.specs.Refusals.{at_least_one, centred_moment, centred_rules, raw_moment, raw_out, raw_rules}
+use Rattle.refusal.specs.Rules.{first_refusal}
 use Rattle.std.specs.Prelude.{Ok}
 
 -- ---- centred moments
@@ -31,7 +32,7 @@ centred_turn m n j s x y z w a b c d e =
     (let d' : z ≡ eval (numbered m) [] (given 1 ↑ j) = d ∙ sym (eval_power (numbered m) [] (given 1) j) in
     rw (a, b, c, d', e))
 
-pub centred_done : (m : List Float) (n j : ℕ) (s : Float) → Ok tt ≡ centred_refusal (length m) n → j ≡ n + 1 → s ≡ eval (numbered m) [] (sum_of (centred_term n) j) → Ok s ≡ centred_moment m n
+pub centred_done : (m : List Float) (n j : ℕ) (s : Float) → Ok tt ≡ first_refusal (centred_rules (length m) n) → j ≡ n + 1 → s ≡ eval (numbered m) [] (sum_of (centred_term n) j) → Ok s ≡ centred_moment m n
 unfolding centred_moment centred_sum
 centred_done m n j s h i p =
     rw (← h) (ap Ok (p ∙ ap (λ (x : ℕ). eval (numbered m) [] (sum_of (centred_term n) x)) (i ∙ add-one n)))
@@ -84,7 +85,7 @@ unfolding raw_value
 raw_at c mean zero x h e = absurd (omega arith)
 raw_at c mean (suc i) x h e = e ∙ ap (raw_sum c mean) (add-one (suc i))
 
-pub raw_done : (c : List Float) (mean : Float) (out w : List Float) (k i : ℕ) → Ok tt ≡ raw_refusal (length c) (length out) → k ≡ at_least_one (length c) → i ≡ k → 0 < i → w ≡ filled c mean (set out 0 mean) i
+pub raw_done : (c : List Float) (mean : Float) (out w : List Float) (k i : ℕ) → Ok tt ≡ first_refusal (raw_rules (length c) (length out)) → k ≡ at_least_one (length c) → i ≡ k → 0 < i → w ≡ filled c mean (set out 0 mean) i
     → (Ok k ≡ raw_moment c out) × (w ≡ raw_out c mean out)
 unfolding raw_moment raw_out filled
 raw_done c mean out w k i h e j q p =

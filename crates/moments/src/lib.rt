@@ -7,7 +7,8 @@ ghost use Rattle.moments.specs.Comb.{choose};
 ghost use Rattle.moments.specs.Lists.{five_of, listed, params_listed, params_of};
 ghost use Rattle.moments.specs.Mixture.{curve_moments, get_moments};
 ghost use Rattle.moments.specs.Orders.{numbered, raw_sum};
-ghost use Rattle.moments.specs.Refusals.{centred_moment, centred_refusal, length_refusal, raw_moment, raw_out, raw_refusal};
+ghost use Rattle.moments.specs.Refusals.{centred_moment, centred_rules, length_rules, raw_moment, raw_out, raw_rules};
+ghost use Rattle.refusal.specs.Rules.{first_refusal};
 
 use refusal::Refusal;
 
@@ -154,7 +155,7 @@ fn numbered_at(m: &[f64], k: usize) -> f64
 
 // At least as many moments as are needed, and no more than 16.
 pub fn check_len(len: usize, needed: usize) -> Result<(), Refusal>
-    ensures { result ≡ length_refusal len needed }
+    ensures { result ≡ first_refusal (length_rules len needed) }
 {
     if len < needed {
         return Err(Refusal::TooFewMoments);
@@ -166,7 +167,7 @@ pub fn check_len(len: usize, needed: usize) -> Result<(), Refusal>
 }
 
 fn check_centred(len: usize, order: usize) -> Result<(), Refusal>
-    ensures { result ≡ centred_refusal len order }
+    ensures { result ≡ first_refusal (centred_rules len order) }
 {
     if 16 < order {
         return Err(Refusal::OrderTooHigh);
@@ -207,7 +208,7 @@ fn raw_one(central: &[f64], mean: f64, n: usize) -> f64
 }
 
 fn check_raw(len: usize, room: usize) -> Result<(), Refusal>
-    ensures { result ≡ raw_refusal len room }
+    ensures { result ≡ first_refusal (raw_rules len room) }
 {
     if 16 < len {
         return Err(Refusal::TooManyMoments);

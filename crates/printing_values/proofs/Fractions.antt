@@ -8,9 +8,8 @@ use lib.ListN.{drop, drop_of_length-le, get_or, length}
 use lib.Seq.{drop-cons}
 use Rattle.text.specs.Bytes.{bytes}
 use Rattle.text.specs.Print.{hex}
-use Rattle.text_write.specs.Appending.{Appended}
+use Rattle.text_write.specs.Appending.{Appended, Puts}
 use Rattle.text_write.specs.declared.Text.{Text}
-use Rattle.text_write.specs.Appending.{Puts}
 use Rattle.printing_values.specs.Texts.{fractions}
 use Rattle.text_write.proofs.Putting.{Left, left_none, left_some, puts_first, puts_one, puts_then}
 

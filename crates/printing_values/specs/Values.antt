@@ -1,6 +1,6 @@
 -- The values of a reply, as docs/REQUESTS.md lists them: texts that are put one after another, each value after a blank. Definitions only.
 use Rattle.std.specs.Prelude.{ℕ, List, [], ◌∷◌, ◌++◌, Float, Option, Some, None, take}
-use Rattle.grid_rows.specs.declared.FitResultRow.{FitResultRow}
+use Rattle.fit_state.specs.declared.row.FitResultRow.{FitResultRow}
 use Rattle.moments.specs.Lists.{listed, params_listed}
 use Rattle.refusal.specs.Numbers.{number_of}
 use Rattle.text.specs.Bytes.{bytes}

@@ -3,7 +3,7 @@ ghost use Rattle.text_write.specs.Appending.{Puts};
 ghost use Rattle.printing_values.specs.Values.{found, searched, walked};
 
 use crate::numbers;
-use grid_rows::FitResultRow;
+use fit_state::FitResultRow;
 use replies::{Report, Search};
 use text_write::Text;
 

@@ -5,7 +5,7 @@ use Rattle.std.proofs.lemmas.List.Edits.{sets}
 use Rattle.moments.specs.Lists.{five_of, params_of}
 use Rattle.text.specs.Decode.{Got, got, bad, ◌▷◌}
 use Rattle.protocol.specs.Words.{next_fraction, next_instant, next_natural}
-use Rattle.walk.specs.declared.Fit.{Fit}
+use Rattle.fit_state.specs.declared.Fit.{Fit}
 
 -- n of a form
 module _ {A : Type 0} where

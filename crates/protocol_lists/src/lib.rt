@@ -6,9 +6,9 @@ ghost use Rattle.text.specs.Meaning.{got_of};
 ghost use Rattle.protocol.specs.Words.{next};
 ghost use Rattle.protocol_lists.specs.Lists.{fractions, list_in, list_of, next_state};
 
+use fit_state::Fit;
 use moments::{Five, Params};
 use protocol::Entry;
-use walk::Fit;
 
 // The list after a blank: how many entries, then so many. Those that have no place in xs are read and
 // left out.

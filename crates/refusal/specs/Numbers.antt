@@ -33,3 +33,8 @@ module _ {A : Type 0} where
   abbrev pub unless_refused : Checked → A → Result A Refusal
   unless_refused (Ok u) x = Ok x
   unless_refused (Err e) x = Err e
+
+  -- one value where nothing is refused, another where something is
+  abbrev pub if_accepted : Checked → A → A → A
+  if_accepted (Ok u) x otherwise = x
+  if_accepted (Err e) x otherwise = otherwise

@@ -1,8 +1,8 @@
 // The replies.
-use grid_rows::FitResultRow;
+use fit_state::{Fit, FitResultRow};
 use moments::{Five, Params};
 use refusal::Refusal;
-use walk::{Ended, Fit};
+use walk::Ended;
 
 // How a walk ended, and the state after it.
 #[derive(Clone, Copy)]

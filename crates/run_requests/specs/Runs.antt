@@ -4,10 +4,11 @@ use Rattle.float.specs.Constants.{nought}
 use Rattle.text.specs.Decode.{Got}
 use Rattle.protocol.specs.Words.{next_natural}
 use Rattle.protocol_lists.specs.Lists.{at, fraction_list, fractions, in_front, next_state}
-use Rattle.walk.specs.declared.M2N.{M2N}
+use Rattle.fit_state.specs.declared.M2N.{M2N}
 use Rattle.walk_requests.specs.Walks.{state_from}
-use Rattle.grid_rows.specs.declared.FitResultRow.{FitResultRow}
-use Rattle.fit_runs.specs.Runs.{flat_of, mp_fit, run_rows}
+use Rattle.fit_state.specs.declared.row.FitResultRow.{FitResultRow}
+use Rattle.fit_state.specs.Rows.{flat_of}
+use Rattle.fit_runs.specs.Runs.{mp_fit, run_rows}
 use Rattle.replies.specs.Requests.{◌>>=◌, after, named, only_or, or_refused, reply}
 use Rattle.replies.specs.declared.forms.Reply.{Reply}
 use Rattle.replies.specs.declared.forms.Reply.TheVariants.{Listed}

@@ -6,9 +6,8 @@ ghost use Rattle.protocol.specs.Words.{only};
 ghost use Rattle.replies.specs.Requests.{only_or};
 ghost use Rattle.run_requests.specs.Runs.{asked, asked_of, rows_in, runs, runs_in, runs_reply, with_rows, words};
 
-use grid::FitResultRow;
+use fit_state::{FitResultRow, M2N};
 use replies::Reply;
-use walk::M2N;
 
 // The rows are left in xs.
 pub fn answer(s: &[u8], xs: &mut [f64]) -> Option<Reply>
@@ -30,7 +29,7 @@ fn mp_fit(s: &[u8], xs: &mut [f64]) -> Option<Reply>
     let (max_iter, s) = protocol::read_next(s)?;
     let (n_runs, s) = protocol::read_next(s)?;
     let (places, s) = protocol::read_next(s)?;
-    let (state, s) = protocol_lists::read_next_state(s)?;
+    let (fit, s) = protocol_lists::read_next_state(s)?;
     let mut weights = [0.0; 4096];
     let n = protocol::only(protocol_lists::read_next_list(s, &mut weights))?;
     let m = M2N {
@@ -41,9 +40,7 @@ fn mp_fit(s: &[u8], xs: &mut [f64]) -> Option<Reply>
         n_runs,
         variant,
         max_iter,
-        new_moments: state.new_moments,
-        parameters: state.parameters,
-        error: state.error,
+        ..M2N::from(fit)
     };
     Some(fill(m, protocol_lists::kept(&weights, n), places, xs))
 }

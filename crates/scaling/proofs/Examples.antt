@@ -19,10 +19,10 @@ use Rattle.moments.specs.Figures.{whole, half}
 use Rattle.moments.specs.declared.Five.{Five}
 use Rattle.step.specs.Steps.{step_4, step_5}
 use Rattle.scaling.specs.Scaling.{fair_walk, Compared}
-use Rattle.walk.specs.Figures.{example_state}
+use Rattle.fit_state.specs.Figures.{example_state}
 use Rattle.walk.specs.Trail.{step_for}
 use Rattle.walk.specs.Walk.{walk_of}
-use Rattle.walk.specs.declared.M2N.{M2N}
+use Rattle.fit_state.specs.declared.M2N.{M2N}
 use Rattle.walk.specs.declared.Reason.{Reason}
 use Rattle.walk.specs.declared.Reason.TheVariants.{Spent, Settled, Inadmissible}
 use Rattle.std.specs.Prelude.{Ok}

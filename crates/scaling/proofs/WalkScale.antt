@@ -15,7 +15,7 @@ use Rattle.step.specs.declared.Step.TheVariants.{Admitted, Inadmissible}
 use Rattle.scaling.specs.Scaling.{Twins, fair_step, fair_from, fair_walk, walk_trail, scale_params, scale_step, ReadOff, Compared, WalksScale}
 use Rattle.walk.specs.Trail.{settled, step_for, trail_from}
 use Rattle.walk.specs.Walk.{Walked, needed_by, walk_refusal, stopped, reason_of, trail_of, answered, walk_of, keep_all}
-use Rattle.walk.specs.declared.M2N.{M2N}
+use Rattle.fit_state.specs.declared.M2N.{M2N}
 use Rattle.walk.specs.declared.Ended.{Ended}
 use Rattle.walk.specs.declared.Reason.{Reason}
 use Rattle.walk.specs.declared.Reason.TheVariants.{Spent}

@@ -15,7 +15,7 @@ use Rattle.step.specs.declared.Step.{Step}
 use Rattle.step.specs.declared.Step.TheVariants.{Admitted, Inadmissible}
 use Rattle.walk.specs.Trail.{settled, step_for}
 use Rattle.walk.specs.Walk.{Walked, trail_of, walk_refusal, reason_of}
-use Rattle.walk.specs.declared.M2N.{M2N}
+use Rattle.fit_state.specs.declared.M2N.{M2N}
 use Rattle.walk.specs.declared.Ended.{Ended}
 
 -- ---- the second walk

@@ -6,7 +6,8 @@ ghost use Rattle.std.specs.Prelude.{◌≡◌};
 ghost use Rattle.scaling.specs.Scaling.{WalksScale};
 ghost use Rattle.walk.specs.Walk.{walk_of};
 
-use walk::{M2N, Walked};
+use fit_state::M2N;
+use walk::Walked;
 
 // What two walks return.
 pub struct Both {

@@ -1,7 +1,7 @@
 -- The request of one search, by its words and what they come to, and the reply to a line. Definitions only.
 use Rattle.std.specs.Prelude.{ℕ, ◌-◌, ◌^◌, List, Float, Option, Some, None, length, replicate, take}
 use Rattle.float.specs.Constants.{nought}
-use Rattle.grid_rows.specs.declared.FitResultRow.{FitResultRow}
+use Rattle.fit_state.specs.declared.row.FitResultRow.{FitResultRow}
 use Rattle.grid.specs.Search.{Fitted, single_fit}
 use Rattle.text.specs.Bytes.{bytes}
 use Rattle.text.specs.Decode.{Got, got, bad, word}
@@ -11,8 +11,8 @@ use Rattle.replies.specs.Requests.{◌>>=◌, named, or_refused, reply}
 use Rattle.replies.specs.declared.forms.Reply.{Reply}
 use Rattle.replies.specs.declared.forms.Reply.TheVariants.{Searched}
 use Rattle.replies.specs.declared.forms.Search.{Search}
-use Rattle.walk.specs.Parts.{fit_part}
-use Rattle.walk.specs.declared.M2N.{M2N}
+use Rattle.fit_state.specs.State.{fit_part}
+use Rattle.fit_state.specs.declared.M2N.{M2N}
 use Rattle.walk_requests.specs.Walks.{state_from}
 
 -- the epsilon for this search: `-` for the state's own
@@ -55,7 +55,7 @@ single = do
   limit ← next_natural (2 ^ 64 - 1)
   state ← next_state
   weights ← fraction_list
-  reply (searched_reply (single_fit (state_from variant (in_front v (replicate 16 nought)) (length v) epsilon factor 1 limit state) e (take 4096 weights)))
+  reply (searched_reply (single_fit (state_from variant (in_front v (replicate 16 nought)) (length v) epsilon factor 0 limit state) e (take 4096 weights)))
 
 abbrev pub searches : List ℕ → Option Reply
 searches s = named "single_fit" single s None

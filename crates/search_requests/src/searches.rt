@@ -6,9 +6,9 @@ ghost use Rattle.text.specs.Meaning.{got_of};
 ghost use Rattle.protocol.specs.Words.{only};
 ghost use Rattle.search_requests.specs.Searches.{next_given, searched_reply, searches, single};
 
+use fit_state::{Fit, M2N};
 use grid::Fitted;
 use replies::{Reply, Search};
-use walk::{Fit, M2N};
 
 pub fn answer(s: &[u8]) -> Option<Reply>
     ensures { result ≡ searches s.now }
@@ -26,7 +26,7 @@ fn single_fit(words: &[u8]) -> Option<Reply>
     let (epsilon_override, words) = read_given(words)?;
     let (factor, words) = protocol::read_next(words)?;
     let (max_iter, words) = protocol::read_next(words)?;
-    let (state, words) = protocol_lists::read_next_state(words)?;
+    let (fit, words) = protocol_lists::read_next_state(words)?;
     let mut weights = [0.0; 4096];
     let n = protocol::only(protocol_lists::read_next_list(words, &mut weights))?;
     let m = M2N {
@@ -34,12 +34,9 @@ fn single_fit(words: &[u8]) -> Option<Reply>
         len,
         epsilon,
         factor,
-        n_runs: 1,
         variant,
         max_iter,
-        new_moments: state.new_moments,
-        parameters: state.parameters,
-        error: state.error,
+        ..M2N::from(fit)
     };
     let fitted = ef3m::single_fit_through(m, epsilon_override, protocol_lists::kept(&weights, n));
     Some(reply(fitted))

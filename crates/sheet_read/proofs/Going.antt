@@ -1,21 +1,24 @@
 -- The loops over a sheet's lines: what is known with n lines read and the bytes t left. Assumes nothing.
 use Prim.Native.Nat.{ℕ, zero, suc, ◌+◌, ◌-◌, ◌≤◌, ◌<◌}
 use mathlib.Core.Path.{◌≡◌, refl, sym, ◌∙◌}
-use mathlib.Core.Bool.{Bool, cond, true, false}
+use mathlib.Core.Bool.{Bool, true, false}
 use mathlib.Core.List.{List, [], ◌∷◌, ◌++◌, append_assoc, append-nil}
 use native.Mathlib.Omega.{arith}
 use native.Mathlib.Numerals.{add-one}
 use borrow.Author.Tests.{eqb-true, le-ltb, lt-ltb, ltb-false}
-use lib.Dec.{ltb, eqb}
+use lib.Dec.{eqb}
 use lib.ListN.{length, length-append}
 use Rattle.std.specs.Prelude.{Ok, Err}
+use Rattle.std.specs.Result.{is_err}
 use Rattle.text.specs.Decode.{got, bad}
+use Rattle.refusal.proofs.Rules.{none_holds}
+use Rattle.refusal.specs.Numbers.{Checked}
+use Rattle.refusal.specs.Rules.{first_refusal}
 use Rattle.refusal.specs.declared.Refusal.TheVariants.{TooLarge}
 use Rattle.sheet_forms.specs.declared.Span.{Span}
 use Rattle.sheet_forms.specs.Forms.{line_form}
 use Rattle.sheet_forms.proofs.Further.{further}
-use Rattle.sheet_read.specs.Sheet.{Lines, also, onward, lines, limited, Reading, sheet}
-use Rattle.sheet_read.specs.declared.SheetError.{SheetError}
+use Rattle.sheet_read.specs.Sheet.{Lines, also, onward, lines, reading, sheet, sheet_rules, spans_of}
 use Rattle.sheet_read.specs.declared.SheetError.TheVariants.{Refused, NotASpan}
 
 -- ---- the spans l, and then what the lines after them are
@@ -116,21 +119,19 @@ pub record Accepts (s : List ℕ) (l : List Span) : Type 0 where
   pub few_lines : length l ≤ 1024
   pub few_bytes : length s ≤ 65536
 
-module _ (l : List Span) where
-  unless : (b : Bool) (d : SheetError) (g : Reading) → cond b (Err d) g ≡ Ok l → (b ≡ false) × (g ≡ Ok l)
-  unless true d g e = absurd cc
-  unless false d g e = (refl, e)
+-- a reading that is no refusal, by the check behind it
+read_by : (c : Checked) (ls : Lines) (l : List Span) → reading c ls ≡ Ok l → (c ≡ Ok tt) × (spans_of ls ≡ l)
+read_by (Ok u) ls l e = (refl, cc)
+read_by (Err r) ls l e = absurd cc
 
-  few : (g : Lines) → limited g ≡ Ok l → (g ≡ Ok l) × (length l ≤ 1024)
-  few (Ok m) e =
-      let p = unless (ltb 1024 (length m)) (Refused TooLarge) (Ok m) e in
-      let q : m ≡ l = cc p.1 in
-      rw (← q) (refl, ltb-false 1024 (length m) p.0)
-  few (Err n) e = absurd cc
+faultless_lines : (ls : Lines) → is_err ls ≡ false → ls ≡ Ok (spans_of ls)
+faultless_lines (Ok l) e = refl
+faultless_lines (Err n) e = absurd cc
 
-  pub accepts : (s : List ℕ) → sheet s ≡ Ok l → Accepts s l
-  unfolding sheet
-  accepts s e =
-      let p = unless (ltb 65536 (length s)) (Refused TooLarge) (limited (lines (length s) 1 s)) e in
-      let q = few (lines (length s) 1 s) p.1 in
-      record { is = q.0; few_lines = q.1; few_bytes = ltb-false 65536 (length s) p.0 }
+pub accepts : (l : List Span) (s : List ℕ) → sheet s ≡ Ok l → Accepts s l
+unfolding sheet
+accepts l s e =
+    let ls : Lines = lines (length s) 1 s in
+    let p = read_by (first_refusal (sheet_rules s ls)) ls l e in
+    let none = none_holds (sheet_rules s ls) p.0 in
+    rw (← p.1) (record { is = faultless_lines ls none.1.0; few_lines = search ltb-false; few_bytes = search ltb-false })

@@ -1,12 +1,12 @@
 -- What a reading leaves in the lent lists, and what the code's functions promise each other. Definitions only.
-use Rattle.std.specs.Prelude.{ℕ, min, ◌≡◌, cond, List, ◌++◌, map, ltb, ℤ, Float, length, drop, Result, Ok, Err}
+use Rattle.std.specs.Prelude.{ℕ, min, ◌≡◌, List, [], ◌∷◌, ◌++◌, map, ltb, ℤ, Float, length, drop, Result, Ok, Err}
 use Rattle.std.specs.Float.{binary64}
 use Rattle.std.specs.Float.Ieee.{of_bits}
+use Rattle.refusal.specs.Rules.{Rule, ◌⇒◌, first_refusal}
 use Rattle.refusal.specs.declared.Refusal.TheVariants.{TooLittleRoom}
 use Rattle.sheet_forms.specs.declared.Span.{Span}
-use Rattle.sheet_read.specs.Sheet.{Reading, sheet}
+use Rattle.sheet_read.specs.Sheet.{Reading, reading, sheet}
 use Rattle.sheet_read.specs.declared.SheetError.{SheetError}
-use Rattle.sheet_read.specs.declared.SheetError.TheVariants.{Refused}
 
 -- a span's start, its end, and its side as a float; every NaN's pattern is the NaN
 abbrev pub from_of : Span → ℤ
@@ -23,9 +23,12 @@ abbrev pub answer_of : Reading → Result ℕ SheetError
 answer_of (Ok l) = Ok (length l)
 answer_of (Err e) = Err e
 
--- refused last of all: less room in the lists than spans
+-- last of all: less room in the lists than spans
+abbrev pub room_rules : ℕ → ℕ → List Rule
+room_rules room spans = ltb room spans ⇒ TooLittleRoom ∷ []
+
 abbrev pub room_for : ℕ → Reading → Reading
-room_for room (Ok l) = cond (ltb room (length l)) (Err (Refused TooLittleRoom)) (Ok l)
+room_for room (Ok l) = reading (first_refusal (room_rules room (length l))) (Ok l)
 room_for room (Err e) = Err e
 
 -- a lent list after it: a field of each span, and past them what was there; where the sheet is refused, all as it was

@@ -1,6 +1,11 @@
 -- What a sheet is: its spans, or document 01's refusal. Definitions only.
-use Rattle.std.specs.Prelude.{ℕ, zero, suc, cond, List, [], ◌∷◌, ltb, length, Result, Ok, Err}
+use Rattle.std.specs.Prelude.{ℕ, zero, suc, List, [], ◌∷◌, ltb, length, Result, Ok, Err}
+use Rattle.std.specs.Result.{is_err}
 use Rattle.text.specs.Decode.{Got, got, bad}
+use Rattle.refusal.specs.Numbers.{Checked}
+use Rattle.refusal.specs.Rules.{Rule, ◌⇒◌, first_refusal}
+use Rattle.refusal.specs.declared.Refusal.{Refusal}
+use Rattle.refusal.specs.declared.Refusal.TheVariants as refusals
 use Rattle.refusal.specs.declared.Refusal.TheVariants.{TooLarge}
 use Rattle.sheet_forms.specs.Forms.{line_form}
 use Rattle.sheet_forms.specs.declared.Span.{Span}
@@ -31,10 +36,31 @@ lines (suc k) n (b ∷ s) = onward n (lines k (suc n)) (line_form (b ∷ s))
 abbrev pub Reading : Type 0
 Reading = Result (List Span) SheetError
 
-abbrev pub limited : Lines → Reading
-limited (Ok l) = cond (ltb 1024 (length l)) (Err (Refused TooLarge)) (Ok l)
-limited (Err n) = Err (NotASpan n)
+-- the spans that are read, none where a line is at fault; and the number of that line
+abbrev pub spans_of : Lines → List Span
+spans_of (Ok l) = l
+spans_of (Err n) = []
 
--- refused: over 65,536 bytes; then the first line that is not a span form; then over 1,024 lines
+abbrev pub fault_of : Lines → ℕ
+fault_of (Ok l) = 0
+fault_of (Err n) = n
+
+-- document 01's entry "Sheet", for bytes s with these lines
+abbrev pub sheet_rules : List ℕ → Lines → List Rule
+sheet_rules s ls =
+    ltb 65536 (length s) ⇒ TooLarge
+    ∷ is_err ls ⇒ refusals.NotASpan
+    ∷ ltb 1024 (length (spans_of ls)) ⇒ TooLarge
+    ∷ []
+
+-- what is told of a refusal: of a line that is no span form which one it is, as the reader has it
+abbrev pub told : Refusal → Lines → SheetError
+told refusals.NotASpan ls = NotASpan (fault_of ls)
+told refusal ls = Refused refusal
+
+abbrev pub reading : Checked → Lines → Reading
+reading (Ok u) ls = Ok (spans_of ls)
+reading (Err refusal) ls = Err (told refusal ls)
+
 unfoldable pub sheet : List ℕ → Reading
-sheet s = cond (ltb 65536 (length s)) (Err (Refused TooLarge)) (limited (lines (length s) 1 s))
+sheet s = let ls = lines (length s) 1 s in reading (first_refusal (sheet_rules s ls)) ls

@@ -1,5 +1,4 @@
 pub mod Rounds
 pub mod Stays
-pub mod Sums
 pub mod Trails
 pub mod Within

@@ -17,9 +17,9 @@ use Rattle.moments.specs.declared.Params.{Params}
 use Rattle.step.specs.declared.Step.TheVariants.{Admitted}
 use Rattle.walk.specs.Parts.{chosen, fit_after, Turned, stays, looks, rounds_on}
 use Rattle.walk.specs.Trail.{settled, step_for}
-use Rattle.walk.specs.Walk.{squares}
-use Rattle.walk.specs.declared.Fit.{Fit}
-use Rattle.walk.specs.declared.M2N.{M2N}
+use Rattle.fit_state.specs.Errors.{squares}
+use Rattle.fit_state.specs.declared.Fit.{Fit}
+use Rattle.fit_state.specs.declared.M2N.{M2N}
 use Rattle.walk.specs.declared.Seen.{Seen}
 use Rattle.walk.specs.declared.Turn.{Turn}
 use Rattle.walk.proofs.Trails.{left_of, goes_on}

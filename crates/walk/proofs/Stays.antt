@@ -16,8 +16,9 @@ use Rattle.step.specs.Steps.{sigma2_squared, step_4, step_5, first_four, first_f
 use Rattle.step.specs.declared.Step.{Step}
 use Rattle.step.specs.declared.Step.TheVariants.{Admitted, Inadmissible}
 use Rattle.walk.specs.Trail.{step_for, trail_from}
-use Rattle.walk.specs.Walk.{error_of, better, keep_of, keep_all, trail_of, walk_refusal, answered, walk_of}
-use Rattle.walk.specs.declared.M2N.{M2N}
+use Rattle.fit_state.specs.Errors.{error_of}
+use Rattle.walk.specs.Walk.{better, keep_of, keep_all, trail_of, walk_refusal, answered, walk_of}
+use Rattle.fit_state.specs.declared.M2N.{M2N}
 use Rattle.walk.proofs.Trails.{out}
 
 -- ---- the moments

@@ -23,13 +23,15 @@ use Rattle.moments.specs.declared.Params.{Params}
 use Rattle.step.specs.Steps.{sigma2_squared}
 use Rattle.step.specs.declared.Step.{Step}
 use Rattle.step.specs.declared.Step.TheVariants.{Admitted, Inadmissible}
-use Rattle.walk.proofs.Sums.{error_is}
-use Rattle.walk.specs.Parts.{chosen, ended_after, fit_after, fit_part, walk_variant, walked_to, with_fit_of}
+use Rattle.fit_state.proofs.Sums.{error_is}
+use Rattle.walk.specs.Parts.{chosen, ended_after, fit_after, walk_variant, walked_to}
+use Rattle.fit_state.specs.State.{fit_part, with_fit}
 use Rattle.walk.specs.Trail.{settled, step_for, trail_from}
 use Rattle.walk.specs.Variants.{is_variant, variant_at, variant_number}
-use Rattle.walk.specs.Walk.{Walked, needed_by, squares, better, keep_of, keep_all, trail_of, stopped, walk_refusal, walk_rules, answered, walk_of}
-use Rattle.walk.specs.declared.M2N.{M2N}
-use Rattle.walk.specs.declared.Fit.{Fit}
+use Rattle.walk.specs.Walk.{Walked, needed_by, better, keep_of, keep_all, trail_of, stopped, walk_refusal, walk_rules, answered, walk_of}
+use Rattle.fit_state.specs.Errors.{squares}
+use Rattle.fit_state.specs.declared.M2N.{M2N}
+use Rattle.fit_state.specs.declared.Fit.{Fit}
 use Rattle.walk.specs.declared.Ended.{Ended}
 use Rattle.walk.specs.declared.Reason.TheVariants as reason
 use Rattle.walk.specs.declared.Reason.TheVariants.{Spent, Settled}
@@ -54,18 +56,18 @@ ends_from s k t = record { state = keep_all s t; outcome = Ok (ended_after (coun
 
 -- after k steps, at the fit f and the pair μ, p
 abbrev pub left_of : M2N → Fit → ℕ → Float → Float → Walked
-left_of m f k μ p = ends_from (with_fit_of m f) k (trail_from (step_for m.variant m.moments) m.epsilon (m.max_iter - k) μ p)
+left_of m f k μ p = ends_from (with_fit m f) k (trail_from (step_for m.variant m.moments) m.epsilon (m.max_iter - k) μ p)
 
 -- ---- one entry
-choices : (b : Bool) (m : M2N) (f : Fit) (r : Params) (n : Five) (e : Float) → better b (with_fit_of m f) r n e ≡ with_fit_of m (chosen b f r n e)
+choices : (b : Bool) (m : M2N) (f : Fit) (r : Params) (n : Five) (e : Float) → better b (with_fit m f) r n e ≡ with_fit m (chosen b f r n e)
 choices true m f r n e = refl
 choices false m f r n e = refl
 
-keeps : (m : M2N) (f : Fit) (r : Params) → keep_of (with_fit_of m f) (Admitted r) ≡ with_fit_of m (fit_after m.len (five_of m.moments) f r)
+keeps : (m : M2N) (f : Fit) (r : Params) → keep_of (with_fit m f) (Admitted r) ≡ with_fit m (fit_after m.len (five_of m.moments) f r)
 unfolding keep_of fit_after
 keeps m f r =
     let e = squares (listed (five_of m.moments)) (listed (get_moments r)) (min m.len 5) in
-    rw (error_is (with_fit_of m f) (get_moments r), choices (lt e f.error) m f r (get_moments r) e)
+    rw (error_is (with_fit m f) (get_moments r), choices (lt e f.error) m f r (get_moments r) e)
 
 -- ---- the ways on
 none_less : (n : ℕ) → n - 0 ≡ n
@@ -126,7 +128,7 @@ goes_on m f g k μ p r h e hg s =
     let n = m.max_iter - (k + 1) in
     let t = trail_from (step_for m.variant m.moments) m.epsilon n r.mu_2 r.p_1 in
     rw (one_less m.max_iter k h, on (step_for m.variant m.moments) m.epsilon n μ p r e, s)
-    (ap (λ x. record { state = keep_all x t; outcome = Ok (ended_after (counted (k + 1) t) m.max_iter (stopped t)) }) (keeps m f r ∙ ap (with_fit_of m) (sym hg)))
+    (ap (λ x. record { state = keep_all x t; outcome = Ok (ended_after (counted (k + 1) t) m.max_iter (stopped t)) }) (keeps m f r ∙ ap (with_fit m) (sym hg)))
 
 -- ---- a walk that is not refused
 -- a walk not refused has the moments that its step reads

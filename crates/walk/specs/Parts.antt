@@ -8,32 +8,26 @@ use Rattle.moments.specs.declared.Params.{Params}
 use Rattle.refusal.specs.Numbers.{unless_refused}
 use Rattle.refusal.specs.declared.Refusal.{Refusal}
 use Rattle.walk.specs.Variants.{variant_at}
-use Rattle.walk.specs.Walk.{Walked, shape_refusal, squares, walk_refusal, with_fit}
-use Rattle.walk.specs.declared.M2N.{M2N}
+use Rattle.walk.specs.Walk.{Walked, shape_refusal, walk_refusal}
+use Rattle.fit_state.specs.Errors.{squares}
+use Rattle.fit_state.specs.State.{with_fit}
+use Rattle.fit_state.specs.declared.M2N.{M2N}
 use Rattle.walk.specs.declared.Ended.{Ended}
-use Rattle.walk.specs.declared.Fit.{Fit}
+use Rattle.fit_state.specs.declared.Fit.{Fit}
 use Rattle.walk.specs.declared.Reason.{Reason}
 use Rattle.walk.specs.declared.Reason.TheVariants.{Spent}
 use Rattle.walk.specs.declared.Seen.{Seen}
 use Rattle.walk.specs.declared.Turn.{Turn}
 use Rattle.walk.specs.declared.Variant.{Variant}
 
--- the fit part of a state
-abbrev pub fit_part : M2N → Fit
-fit_part m = record { new_moments = m.new_moments; parameters = m.parameters; error = m.error }
-
 abbrev pub chosen : Bool → Fit → Params → Five → Float → Fit
 chosen true f r n e = record { new_moments = n; parameters = r; error = e }
-chosen false f r n e = record { new_moments = n; parameters = f.parameters; error = f.error }
+chosen false f r n e = record f { new_moments = n }
 
 -- the fit after an admitted iterate, for target moments a of which len are given
 unfoldable pub fit_after : ℕ → Five → Fit → Params → Fit
 unfolding squares
 fit_after len a f r = let n = get_moments r in let e = squares (listed a) (listed n) (min len 5) in chosen (lt e f.error) f r n e
-
--- the state with a fit
-abbrev pub with_fit_of : M2N → Fit → M2N
-with_fit_of m f = with_fit m f.new_moments f.parameters f.error
 
 -- the state's variant, unless its walk is refused for the state, or from the weight
 abbrev pub shape_variant : M2N → Result Variant Refusal
@@ -48,7 +42,7 @@ ended_after count limit stopped = record { count = count; reason = cond (eqb cou
 
 -- the answer of a walk of a state that left a fit and ended so
 abbrev pub walked_to : M2N → Fit → Ended → Walked
-walked_to m f e = record { state = with_fit_of m f; outcome = Ok e }
+walked_to m f e = record { state = with_fit m f; outcome = Ok e }
 
 -- one turn of the walk's count: as it was; or with another pair to look out for; or, where the pair is the one looked out for, with whole rounds counted
 pub data Turned (count limit : ℕ) (μ p : Float) (seen : Seen) (r : Turn) : Type 0 where

@@ -1,10 +1,8 @@
 -- What a walk answers: refused, or its trail's length, the reason, and the best of what was met. Definitions only.
-use Rattle.std.specs.Prelude.{List, [], ◌∷◌, ◌++◌, Bool, true, false, ◌&&◌, not, cond, ℕ, zero, suc, min, ltb, eqb, length, get_or, Float, Ok, Err}
-use Rattle.std.specs.Float.{nan, binary64}
-use Rattle.std.specs.Float.Ieee.{add, sub, mul, lt, le}
-use Rattle.float.specs.Constants.{nought, one, minus_nought}
+use Rattle.std.specs.Prelude.{List, [], ◌∷◌, ◌++◌, Bool, true, false, ◌&&◌, not, cond, ℕ, ltb, eqb, length, Float, Ok, Err}
+use Rattle.std.specs.Float.Ieee.{lt, le}
+use Rattle.float.specs.Constants.{nought, one}
 use Rattle.moments.specs.Mixture.{get_moments}
-use Rattle.moments.specs.Lists.{listed}
 pub use Rattle.moments.specs.Lists.{five_of}
 use Rattle.moments.specs.declared.Five.{Five}
 use Rattle.moments.specs.declared.Params.{Params}
@@ -15,46 +13,18 @@ use Rattle.step.specs.declared.Step.{Step}
 use Rattle.step.specs.declared.Step.TheVariants.{Admitted, Inadmissible}
 use Rattle.walk.specs.Trail.{step_for, trail_from}
 use Rattle.walk.specs.Variants.{is_variant}
-use Rattle.walk.specs.declared.M2N.{M2N}
+use Rattle.fit_state.specs.Errors.{error_of}
+use Rattle.fit_state.specs.declared.M2N.{M2N}
 use Rattle.walk.specs.declared.Reason.{Reason}
 use Rattle.walk.specs.declared.Reason.TheVariants as reason
 use Rattle.walk.specs.declared.Reason.TheVariants.{Spent, Settled}
-use Rattle.walk.specs.declared.After.{After}
+use Rattle.fit_state.specs.declared.After.{After}
 use Rattle.walk.specs.declared.Ended.{Ended}
-
--- (a - b)²
-abbrev pub squared : Float → Float → Float
-squared a b = mul binary64 (sub binary64 a b) (sub binary64 a b)
-
--- the sum of the squares of the first k differences, from -0
-unfoldable pub squares : List Float → List Float → ℕ → Float
-squares a b zero = minus_nought
-squares a b (suc k) = add binary64 (squares a b k) (squared (get_or a k nan) (get_or b k nan))
-
--- the step error: over at most five moments, four where only four are given
-unfoldable pub error_of : M2N → Five → Float
-unfolding squares
-error_of m n = squares m.moments (listed n) (min m.len 5)
-
--- the state with other moments stored and another best fit
-abbrev pub with_fit : M2N → Five → Params → Float → M2N
-with_fit m n r e = record {
-  moments = m.moments;
-  len = m.len;
-  epsilon = m.epsilon;
-  factor = m.factor;
-  n_runs = m.n_runs;
-  variant = m.variant;
-  max_iter = m.max_iter;
-  new_moments = n;
-  parameters = r;
-  error = e;
-}
 
 -- an admitted iterate: its moments are stored, and it is kept where its error is strictly smaller, so NaN never wins
 abbrev pub better : Bool → M2N → Params → Five → Float → M2N
-better true m r n e = with_fit m n r e
-better false m r n e = with_fit m n m.parameters m.error
+better true m r n e = record m { new_moments = n; parameters = r; error = e }
+better false m r n e = record m { new_moments = n }
 
 unfoldable pub keep_of : M2N → Step → M2N
 unfolding error_of

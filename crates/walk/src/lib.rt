@@ -4,33 +4,18 @@
 
 ghost use Rattle.std.specs.Prelude.{◌≡◌, true, ◌≤◌, ◌<◌, min, Ok};
 ghost use Rattle.moments.specs.Lists.{five_of, listed};
-ghost use Rattle.walk.specs.Parts.{Turned, ended_after, fit_after, fit_part, shape_variant, walk_variant, walked_to, with_fit_of};
+ghost use Rattle.walk.specs.Parts.{Turned, ended_after, fit_after, shape_variant, walk_variant, walked_to};
+ghost use Rattle.fit_state.specs.State.{fit_part, with_fit};
 ghost use Rattle.walk.specs.Reasons.{number_of};
-ghost use Rattle.walk.specs.Squares.{squares_summed};
+ghost use Rattle.fit_state.specs.Errors.{squares_summed, squares};
 ghost use Rattle.walk.specs.Trail.{step_for};
 ghost use Rattle.walk.specs.Variants.{variant_number, variant_of};
-ghost use Rattle.walk.specs.Walk.{is_weight, needed_by, squares, walk_of, walk_refusal};
+ghost use Rattle.walk.specs.Walk.{is_weight, needed_by, walk_of, walk_refusal};
 
+use fit_state::{After, Fit, M2N, errors};
 use moments::{Five, Params};
 use refusal::Refusal;
 use step::Step;
-
-// The fit state: the target moments (the first `len` of 16), the settings, and the best fit so far. The
-// moments are an array and a length, as document 01 names them: a state is a value of one size, with no heap.
-// The last three are a `Fit`; they stand flat, as the Rust's state has them.
-#[derive(Clone, Copy)]
-pub struct M2N {
-    pub moments: [f64; 16],
-    pub len: usize,
-    pub epsilon: f64,
-    pub factor: f64,
-    pub n_runs: usize,
-    pub variant: usize,
-    pub max_iter: usize,
-    pub new_moments: Five,
-    pub parameters: Params,
-    pub error: f64,
-}
 
 // Which step a walk takes; each is its number. A state has a `usize`, since it may hold any number, and a
 // walk refuses the others.
@@ -78,28 +63,6 @@ impl Variant {
     }
 }
 
-// The part of the state that a walk changes.
-#[derive(Clone, Copy)]
-pub struct Fit {
-    pub new_moments: Five,
-    pub parameters: Params,
-    pub error: f64,
-}
-
-impl From<M2N> for Fit {
-    ghost from_gives = { λ m f. f ≡ fit_part m };
-
-    fn from(m: M2N) -> Fit
-        ensures { result ≡ fit_part m }
-    {
-        Fit {
-            new_moments: m.new_moments,
-            parameters: m.parameters,
-            error: m.error,
-        }
-    }
-}
-
 // A pair of the walk, and how many steps led to it.
 #[derive(Clone, Copy)]
 struct Seen {
@@ -141,50 +104,7 @@ pub struct Ended {
     pub reason: Reason,
 }
 
-// The state after a walk or a search, and how it went.
-#[derive(Clone, Copy)]
-pub struct After<T> {
-    pub state: M2N,
-    pub outcome: Result<T, Refusal>,
-}
-
 pub type Walked = After<Ended>;
-
-// The moments that a step reads.
-pub fn first_five(m: M2N) -> Five
-    ensures { result ≡ five_of m.moments }
-{
-    let [m_1, m_2, m_3, m_4, m_5, ..] = m.moments;
-    Five {
-        m_1,
-        m_2,
-        m_3,
-        m_4,
-        m_5,
-    }
-}
-
-// The squares, summed as Rust's sum() does, from -0.
-pub fn sum_of_squares(numbers: &[f64]) -> f64
-    ensures { result ≡ squares_summed numbers.now }
-{
-    numbers.iter().map(|x| *x * *x).sum()
-}
-
-// The step error: the squares of the first `len` differences, and of no more than there are.
-#[tactic(auto, using(crate::proofs::Sums::squares_are))]
-pub fn error_of(len: usize, a: Five, b: Five) -> f64
-    ensures { result ≡ squares (listed a) (listed b) (min len 5) }
-{
-    let differences = [
-        a.m_1 - b.m_1,
-        a.m_2 - b.m_2,
-        a.m_3 - b.m_3,
-        a.m_4 - b.m_4,
-        a.m_5 - b.m_5,
-    ];
-    sum_of_squares(&differences[..len.min(5)])
-}
 
 // An admitted iterate: its moments are stored, and it is kept where its error is strictly smaller.
 #[tactic(auto, unfolding(crate::specs::Parts::fit_after))]
@@ -192,7 +112,7 @@ fn fit_after(len: usize, a: Five, f: Fit, r: Params) -> Fit
     ensures { result ≡ fit_after len a f r }
 {
     let new_moments = moments::get_moments(r);
-    let error = error_of(len, a, new_moments);
+    let error = errors::error_of(len, a, new_moments);
     if error < f.error {
         return Fit {
             new_moments,
@@ -201,22 +121,6 @@ fn fit_after(len: usize, a: Five, f: Fit, r: Params) -> Fit
         };
     }
     Fit { new_moments, ..f }
-}
-
-fn with_fit(m: M2N, f: Fit) -> M2N
-    ensures { result ≡ with_fit_of m f }
-{
-    let Fit {
-        new_moments,
-        parameters,
-        error,
-    } = f;
-    M2N {
-        new_moments,
-        parameters,
-        error,
-        ..m
-    }
 }
 
 // Whether a walk may start at the weight: at least 0 and below 1, so not NaN.
@@ -298,7 +202,7 @@ fn walk(m: M2N, variant: Variant, mu_2: f64, p_1: f64) -> (Fit, Ended)
     requires { (variant_number variant ≡ m.variant) × (Ok tt ≡ walk_refusal m p_1) }
     ensures { walked_to m result.0 result.1 ≡ walk_of m mu_2 p_1 }
 {
-    let a = first_five(m);
+    let a = m.first_five();
     let max_iter = m.max_iter;
     let mut f = Fit::from(m);
     let mut mu = mu_2;
@@ -333,7 +237,7 @@ pub fn iterate_from(m: M2N, mu_2: f64, p_1: f64) -> Walked
         Ok(variant) => {
             let (fit, ended) = walk(m, variant, mu_2, p_1);
             Walked {
-                state: with_fit(m, fit),
+                state: m.with_fit(fit),
                 outcome: Ok(ended),
             }
         }

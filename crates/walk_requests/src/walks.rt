@@ -4,8 +4,9 @@ ghost use Rattle.std.specs.Prelude.{◌≡◌};
 ghost use Rattle.protocol.specs.Words.{only};
 ghost use Rattle.walk_requests.specs.Walks.{walk, walked_reply, walks};
 
+use fit_state::{Fit, M2N};
 use replies::{Reply, Report};
-use walk::{Fit, M2N, Walked};
+use walk::Walked;
 
 pub fn answer(s: &[u8]) -> Option<Reply>
     ensures { result ≡ walks s.now }
@@ -21,18 +22,14 @@ fn walk(words: &[u8]) -> Option<Reply>
     let (len, words) = protocol_lists::read_next_list(words, &mut moments)?;
     let ([mu_2, p_1, epsilon], words) = protocol_lists::read_next_fractions::<3>(words)?;
     let (max_iter, words) = protocol::read_next(words)?;
-    let state = protocol::only(protocol_lists::read_next_state(words))?;
+    let fit = protocol::only(protocol_lists::read_next_state(words))?;
     let m = M2N {
         moments,
         len,
         epsilon,
-        factor: 0.0,
-        n_runs: 1,
         variant,
         max_iter,
-        new_moments: state.new_moments,
-        parameters: state.parameters,
-        error: state.error,
+        ..M2N::from(fit)
     };
     Some(reply(walk::iterate_from(m, mu_2, p_1)))
 }

@@ -13,11 +13,12 @@ use lib.ListN.{drop, length, length-append, length-drop, length-map, length-take
 use lib.Seq.{drop-append-le, drop_at, length-take-le, take_at}
 use Rattle.std.specs.Prelude.{Result, Ok, Err}
 use Rattle.refusal.specs.Numbers.{Checked, unless_refused}
+use Rattle.refusal.specs.Rules.{first_refusal}
 use Rattle.refusal.specs.declared.Refusal.{Refusal}
 use Rattle.budget.specs.Budget.{BetSizeBudget, budget_sizes}
 use Rattle.bet_sizing.specs.declared.counts.Side.TheVariants.{Long, Short}
 use Rattle.bet_sizing.specs.Counts.{concurrent, concurrent_counts, whole}
-use Rattle.bet_sizing.specs.Refusals.{ConcurrentSides, spans_refusal}
+use Rattle.bet_sizing.specs.Refusals.{ConcurrentSides, spans_rules}
 use Rattle.bet_sizing.proofs.Refusing.{accepted, accepted_in, fits}
 use Rattle.replies.specs.declared.forms.Columns.TheVariants.{One, Two}
 use Rattle.bet_requests.specs.Spans.{asked_of, refusal, sides_in, sides_refusal, sides_rows, sizes_in, sizes_rows}
@@ -29,7 +30,7 @@ put_back n k new xs f l =
     ∙ ap (λ (r : List Float). new ++ r) (sym (drop-append-le n (take k xs) (drop k xs) (omega (arith, length-take-le k xs l))) ∙ ap (drop n) (take-append-drop k xs))
 
 -- a check that is told of two rooms answers the same where there is room for n in both or in neither
-same_room : (n es ds a b : ℕ) → ltb a n ≡ ltb b n → spans_refusal n es ds a ≡ spans_refusal n es ds b
+same_room : (n es ds a b : ℕ) → ltb a n ≡ ltb b n → first_refusal (spans_rules n es ds a) ≡ first_refusal (spans_rules n es ds b)
 same_room n es ds a b e = rw e
 
 by_room : (n a b : ℕ) (little : Bool) → ltb a n ≡ little → n ≤ 4096 → b ≡ min a 4096 → ltb a n ≡ ltb b n
@@ -46,7 +47,7 @@ module _ (room from k : ℕ) (xs : List Float) {ss es : List ℤ} {ds : List Flo
       → (Ok (record { count = n; columns = One; starts = from }) ≡ sizes_rows (length xs) (asked_of room from ss es ds)) × (size ++ drop k xs ≡ sizes_in xs (asked_of room from ss es ds))
   sizes_of_all {size} {r} {n} is-k h e =
       let l : length (take k xs) ≡ k = length-take-le k xs (omega arith) in
-      let a = accepted (spans_refusal (length ss) (length es) (length ds) (length (take k xs))) (length ss) n (sym h.answered ∙ e) in
+      let a = accepted (first_refusal (spans_rules (length ss) (length es) (length ds) (length (take k xs)))) (length ss) n (sym h.answered ∙ e) in
       let few : length ss ≤ k = omega (arith, fits (length ss) (length es) (length ds) (length (take k xs)) a.0) in
       let all : refusal (asked_of room from ss es ds) (length xs) ≡ Ok tt = accepted_in (length ss) (length es) (length ds) (length (take k xs)) (min room (length xs)) a.0 (omega arith) in
       let sized : size ≡ budget_sizes ss es ds ++ drop (length ss) (take k xs) = rw a.0 at h.sizes in
@@ -59,7 +60,7 @@ module _ (room from k : ℕ) (xs : List Float) {ss es : List ℤ} {ds : List Flo
       let half : ℕ = length xs / 2 in
       let l : length (take k xs) ≡ k = length-take-le k xs (omega arith) in
       let lent : ℕ = min (length (take k xs)) (length old) in
-      let checked : spans_refusal (length ss) (length es) (length ds) lent ≡ Err e = refused _ (length ss) h.answered in
+      let checked : first_refusal (spans_rules (length ss) (length es) (length ds) lent) ≡ Err e = refused _ (length ss) h.answered in
       let all : sides_refusal (length xs) (asked_of room from ss es ds) ≡ Err e =
       same_room (length ss) (length es) (length ds) (min room half) lent (by_room (length ss) (min room half) lent (ltb (min room half) (length ss)) refl fits (omega arith)) ∙ checked in
       let front : long ≡ take k xs = rw checked at h.longs in
@@ -73,7 +74,7 @@ module _ (room from k : ℕ) (xs : List Float) {ss es : List ℤ} {ds : List Flo
       let half : ℕ = length xs / 2 in
       let l : length (take k xs) ≡ k = length-take-le k xs (omega arith) in
       let lent : ℕ = min (length (take k xs)) (length old) in
-      let a = accepted (spans_refusal (length ss) (length es) (length ds) lent) (length ss) n (sym h.answered ∙ e) in
+      let a = accepted (first_refusal (spans_rules (length ss) (length es) (length ds) lent)) (length ss) n (sym h.answered ∙ e) in
       let few : length ss ≤ k = omega (arith, fits (length ss) (length es) (length ds) lent a.0) in
       let all : sides_refusal (length xs) (asked_of room from ss es ds) ≡ Ok tt = accepted_in (length ss) (length es) (length ds) lent (min room half) a.0 (omega arith) in
       let longs : List Float = concurrent_counts Long ss es ds in

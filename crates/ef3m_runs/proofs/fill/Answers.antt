@@ -1,6 +1,7 @@
 use Rattle.std.proofs.Common.{[], ◌<◌, arith, ap, get_or, get_or-take, length-take-le, set, ◌∙◌}
-use Rattle.ef3m_runs.proofs.Lists.{next_cur, six_at, starts}
-use Rattle.grid_rows.specs.FitResultRow.{row_from}
+use Rattle.ef3m_runs.proofs.Lists.{next_cur, starts}
+use Rattle.fit_state.proofs.Flats.{six_at}
+use Rattle.fit_state.specs.Rows.{row_from}
 use Rattle.ef3m_runs.proofs.fill.Goals as goal
 
 pub loop-i-init : goal.loop-i-init

@@ -3,7 +3,8 @@ use mathlib.Core.Path.{refl}
 use Prim.Native.Nat.{◌<◌}
 use native.Mathlib.Omega.{arith}
 use lib.Ieee.{of_bits}
-use Rattle.fit_runs.specs.Runs.{rows_to, flat_of, flat_in64}
+use Rattle.fit_runs.specs.Runs.{rows_to}
+use Rattle.fit_state.specs.Rows.{flat_of, flat_in64}
 use Rattle.fit_runs.proofs.Running.{turn}
 use Rattle.fit_runs.proofs.all.Goals as goal
 

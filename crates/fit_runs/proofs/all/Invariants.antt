@@ -1,6 +1,7 @@
 use mathlib.Core.Path.{◌≡◌}
 use lib.ListN.{length}
-use Rattle.fit_runs.specs.Runs.{rows_to, flat_in64}
+use Rattle.fit_runs.specs.Runs.{rows_to}
+use Rattle.fit_state.specs.Rows.{flat_in64}
 use Rattle.fit_runs.proofs.all.Given as goal
 
 abbrev pub invariant-loop-k : goal.invariant-loop-k

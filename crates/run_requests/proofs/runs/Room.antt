@@ -9,8 +9,8 @@ use lib.Seq.{length-take-le, take-append_seam}
 use Rattle.std.proofs.Common.{Ok, Result}
 use Rattle.std.proofs.lemmas.Bool.Decides.{nat_tests}
 use Rattle.refusal.specs.declared.Refusal.{Refusal}
-use Rattle.walk.specs.declared.M2N.{M2N}
-use Rattle.grid_rows.specs.declared.FitResultRow.{FitResultRow}
+use Rattle.fit_state.specs.declared.M2N.{M2N}
+use Rattle.fit_state.specs.declared.row.FitResultRow.{FitResultRow}
 use Rattle.fit_refusals.specs.Refusals.{runs_refusal}
 use Rattle.fit_runs.specs.Runs.{mp_fit, mp_rows, run_rows}
 use Rattle.fit_runs.proofs.Running.{count_is, few_rows}

@@ -7,11 +7,10 @@ use native.Mathlib.Omega.{arith}
 use lib.Ieee.{Float}
 use lib.ListN.{drop, get_or, length, length-append, length-drop, take}
 use lib.Seq.{drop-append-add, drop-drop, length-take-le, take-append_seam}
-use Rattle.grid_rows.proofs.Places.{row_within}
-use Rattle.grid_rows.specs.FitResultRow.{six, with_row_in}
-use Rattle.grid_rows.specs.declared.FitResultRow.{FitResultRow}
-use Rattle.fit_runs.specs.Runs.{flat_of}
-use Rattle.fit_runs.proofs.Flats.{length_flat}
+use Rattle.fit_state.proofs.Places.{row_within}
+use Rattle.fit_state.specs.Rows.{six, with_row_in, flat_of}
+use Rattle.fit_state.specs.declared.row.FitResultRow.{FitResultRow}
+use Rattle.fit_state.proofs.Flats.{length_flat}
 use Rattle.run_requests.specs.Runs.{with_rows}
 
 flat_next : (rows : List FitResultRow) (i : ℕ) (none : FitResultRow) → i < length rows → flat_of (take (suc i) rows) ≡ flat_of (take i rows) ++ six (get_or rows i none)

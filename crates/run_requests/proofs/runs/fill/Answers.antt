@@ -2,7 +2,7 @@
 use mathlib.Core.Path.{refl, sym}
 use native.Mathlib.Omega.{arith}
 use lib.Seq.{length-take-le}
-use Rattle.fit_runs.specs.Runs.{flat_of}
+use Rattle.fit_state.specs.Rows.{flat_of}
 use Rattle.fit_runs.proofs.Running.{few_rows, none_run}
 use Rattle.run_requests.proofs.runs.Room.{all_rows, answered, few, rows_lent}
 use Rattle.run_requests.proofs.runs.fill.Goals as goal

@@ -14,7 +14,7 @@ unfolding asked
 returns-in_err-n c =
     let moments = list_got next_fraction _ _ _ c.in_ok-len.ensures.counted in
     let h : None ≡ only (asked c.args.s.now) =
-    rw (c.in_ok-variant.ensures, moments, c.in_ok-epsilon.ensures, c.in_ok-max_iter.ensures, c.in_ok-n_runs.ensures, c.in_ok-places.ensures, c.in_ok-state.ensures)
+    rw (c.in_ok-variant.ensures, moments, c.in_ok-epsilon.ensures, c.in_ok-max_iter.ensures, c.in_ok-n_runs.ensures, c.in_ok-places.ensures, c.in_ok-fit.ensures)
     (only_list next_fraction _ _ _ c.read_next_list-2.ensures.counted c.in_err-n.ensures) in
     (c.from_residual-in_err-n.ensures ∙ only_none (runs_reply _) _ h, only_old (rows_in c.args.xs.now) _ _ h)
 
@@ -26,5 +26,6 @@ returns c =
     let read = c.read_next_list-2.ensures.counted ∙ only_some _ c.in_ok-n.ensures in
     let weights = list_got next_fraction _ _ _ read in
     let kept = c.kept.ensures ∙ list_first next_fraction _ _ _ read _ 4096 c.read_next_list-2.ensures.kept (omega arith) in
-    rw (c.in_ok-variant.ensures, moments, c.in_ok-epsilon.ensures, c.in_ok-max_iter.ensures, c.in_ok-n_runs.ensures, c.in_ok-places.ensures, c.in_ok-state.ensures, weights, ← kept, long, ← c.in_ok-len.ensures.kept, ← c.fill.ensures.0)
-    (refl, c.fill.ensures.1)
+    let filled = rw c.from.ensures at c.fill.ensures in
+    rw (c.in_ok-variant.ensures, moments, c.in_ok-epsilon.ensures, c.in_ok-max_iter.ensures, c.in_ok-n_runs.ensures, c.in_ok-places.ensures, c.in_ok-fit.ensures, weights, ← kept, long, ← c.in_ok-len.ensures.kept, ← filled.0)
+    (refl, filled.1)

@@ -10,7 +10,7 @@ use Rattle.search_requests.proofs.searches.single_fit.Goals as goal
 pub returns-in_err-n : goal.returns-in_err-n
 returns-in_err-n c =
     let moments = list_got next_fraction _ _ _ c.in_ok-len.ensures.counted in
-    rw (c.from_residual-in_err-n.ensures, c.in_ok-variant.ensures, moments, c.in_ok-epsilon.ensures, c.in_ok-epsilon_override.ensures, c.in_ok-factor.ensures, c.in_ok-max_iter.ensures, c.in_ok-state.ensures)
+    rw (c.from_residual-in_err-n.ensures, c.in_ok-variant.ensures, moments, c.in_ok-epsilon.ensures, c.in_ok-epsilon_override.ensures, c.in_ok-factor.ensures, c.in_ok-max_iter.ensures, c.in_ok-fit.ensures)
     (only_list next_fraction _ _ _ c.read_next_list-2.ensures.counted c.in_err-n.ensures)
 
 pub returns : goal.returns
@@ -21,5 +21,5 @@ returns c =
     let read = c.read_next_list-2.ensures.counted ∙ only_some _ c.in_ok-n.ensures in
     let weights = list_got next_fraction _ _ _ read in
     let kept = c.kept.ensures ∙ list_first next_fraction _ _ _ read _ 4096 c.read_next_list-2.ensures.kept (omega arith) in
-    rw (c.in_ok-variant.ensures, moments, c.in_ok-epsilon.ensures, c.in_ok-epsilon_override.ensures, c.in_ok-factor.ensures, c.in_ok-max_iter.ensures, c.in_ok-state.ensures, weights, ← kept, long, ← c.in_ok-len.ensures.kept, c.reply.ensures, c.single_fit_through-fitted.ensures)
+    rw (c.in_ok-variant.ensures, moments, c.in_ok-epsilon.ensures, c.in_ok-epsilon_override.ensures, c.in_ok-factor.ensures, c.in_ok-max_iter.ensures, c.in_ok-fit.ensures, weights, ← kept, long, ← c.in_ok-len.ensures.kept, c.reply.ensures, c.single_fit_through-fitted.ensures, c.from.ensures)
     refl

@@ -10,6 +10,6 @@ pub returns : goal.returns
 unfolding of_bits
 returns c =
     let read = c.in_ok-len.ensures.counted in
-    let state = c.read_next_state.ensures ∙ only_some _ c.in_ok-state.ensures in
-    rw (c.in_ok-variant.ensures, list_got next_fraction _ _ _ read, list_long next_fraction _ _ _ read, c.in_ok-mu_2.ensures, c.in_ok-max_iter.ensures, state, c.reply.ensures, c.iterate_from.ensures, c.in_ok-len.ensures.kept)
+    let state = c.read_next_state.ensures ∙ only_some _ c.in_ok-fit.ensures in
+    rw (c.in_ok-variant.ensures, list_got next_fraction _ _ _ read, list_long next_fraction _ _ _ read, c.in_ok-mu_2.ensures, c.in_ok-max_iter.ensures, state, c.reply.ensures, c.iterate_from.ensures, c.from.ensures, c.in_ok-len.ensures.kept)
     refl

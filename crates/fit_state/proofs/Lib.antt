@@ -1,0 +1,4 @@
+pub mod Flats
+pub mod Places
+pub mod Searching
+pub mod Sums
