@@ -1,18 +1,18 @@
 -- Document 01's figures on epsilon, and two searches that find a row, one of them about the mean, computed through the definitions. The bits are the Rust's.
-use Rattle.std.specs.Prelude.{◌≡◌, refl, List, [], ◌∷◌, false, ℕ, Float, replicate}
+use Rattle.std.specs.Prelude.{◌≡◌, refl, List, [], ◌∷◌, false, ℕ, Float}
 use Rattle.std.specs.Float.{binary64}
 use Rattle.std.specs.Float.Ieee.{round, of_int, of_bits, to_unsigned, add, mul, sub, div, neg, eq, lt, le}
-use Rattle.float.specs.Constants.{nought}
 use Rattle.float.specs.Leaves.{abs_of, larger_of}
 use Rattle.float.specs.Power.{power_of}
 use Rattle.float.specs.Root.{root}
 use Rattle.float.specs.Upper.{upper_of}
 use Rattle.moments.specs.Comb.{choose}
-use Rattle.moments.specs.Figures.{whole, half, params}
+use Rattle.moments.specs.Figures.{whole, half}
 use Rattle.moments.specs.Mixture.{get_moments}
 use Rattle.moments.specs.Orders.{centred_sum}
 use Rattle.step.specs.Steps.{step_4, step_5}
 use Rattle.refusal.specs.Numbers.{status_of}
+use Rattle.fit_state.specs.Figures.{example_state}
 use Rattle.walk.specs.Trail.{step_for}
 use Rattle.fit_state.specs.Errors.{sum_of_squares, error_of}
 use Rattle.walk.specs.Walk.{walk_of}
@@ -22,21 +22,11 @@ use Rattle.fit_state.specs.Search.{begun, centred_state, moved_error, deviation_
 use Rattle.fit_state.specs.Rows.{rows_in, flat_of}
 use Rattle.grid.specs.Search.{fit_of}
 use Rattle.grid_rows.specs.Rows.{mean_of}
+use Rattle.figures.specs.Figures.{five, M}
 
--- M = (1, 4.5, 16, 81.5, 416), factor 1
+-- on M, with factor 1
 abbrev on_M : ℕ → Float → M2N
-on_M variant epsilon = record {
-  moments = whole 1 ∷ half 9 ∷ whole 16 ∷ half 163 ∷ whole 416 ∷ replicate 11 nought;
-  len = 5;
-  epsilon = epsilon;
-  factor = whole 1;
-  n_runs = 1;
-  variant = variant;
-  max_iter = 100;
-  new_moments = record { m_1 = nought; m_2 = nought; m_3 = nought; m_4 = nought; m_5 = nought };
-  parameters = params nought nought nought nought nought;
-  error = nought;
-}
+on_M variant epsilon = record (example_state (five M)) { variant = variant; epsilon = epsilon; factor = whole 1 }
 
 -- 1 / n
 abbrev part : ℕ → Float

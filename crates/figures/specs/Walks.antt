@@ -1,25 +1,13 @@
 -- Document 01's figures of the walk, for a variant: "Walk on M from (2, 0.5), epsilon 0.25, error 179975.5 before: 1 step, error 0, settled; with `max_iter` 1, spent; with 0, 0 steps, spent."
-use Rattle.std.specs.Prelude.{◌≡◌, false, ℕ, Ok}
-use Rattle.std.specs.Float.{nan, binary64}
-use Rattle.std.specs.Float.Ieee.{round}
+use Rattle.std.specs.Prelude.{◌≡◌, ℕ, Ok}
+use Rattle.fit_state.specs.Figures.{example_state}
 use Rattle.walk.specs.Walk.{Walked, walk_of}
 use Rattle.fit_state.specs.declared.M2N.{M2N}
 use Rattle.walk.specs.declared.Reason.TheVariants.{Settled, Spent}
-use Rattle.figures.specs.Figures.{◌·◌, params, five, listed, M}
+use Rattle.figures.specs.Figures.{◌·◌, five, M}
 
 abbrev before : ℕ → ℕ → M2N
-before variant limit = record {
-  moments = listed M;
-  len = 5;
-  epsilon = round binary64 false 1 4;
-  factor = 5 · 0;
-  n_runs = 1;
-  variant = variant;
-  max_iter = limit;
-  new_moments = five (nan, nan, nan, nan, nan);
-  parameters = params (nan, nan, nan, nan, nan);
-  error = 179975 · 5;
-}
+before variant limit = record (example_state (five M)) { variant = variant; max_iter = limit; error = 179975 · 5 }
 
 abbrev walked : ℕ → ℕ → Walked
 walked variant limit = walk_of (before variant limit) (2 · 0) (0 · 5)

@@ -1,4 +1,5 @@
 pub mod Errors
+pub mod Figures
 pub mod Rows
 pub mod Search
 pub mod State

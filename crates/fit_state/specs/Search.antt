@@ -1,5 +1,5 @@
 -- Where a search starts, and what is moved back to the mean after it (the Rust's single_fit_loop and centred_fit_loop). Definitions only.
-use Rattle.std.specs.Prelude.{◌∷◌, Bool, ◌&&◌, cond, min, get_or, replicate, Float, Option, Some, None}
+use Rattle.std.specs.Prelude.{◌∷◌, Bool, ◌&&◌, cond, min, get_or, replicate, Float}
 use Rattle.std.specs.Float.{nan, binary64}
 use Rattle.std.specs.Float.Ieee.{add, eq}
 use Rattle.float.specs.Constants.{nought}

@@ -1,4 +1,4 @@
--- Walks for which what `WalksScale` asks holds, each by computation, so that it is not empty: on M = (1, 4.5, 16, 81.5, 416), two steps from mean 2 and weight 5/8 on four and on five of them, for three s each. Assumes nothing.
+-- Walks for which what `WalksScale` asks holds, each by computation, so that it is not empty: on M = (1, 4.5, 16, 81.5, 416), on four and on five of them, one that is spent, one that settles and one that ends inadmissible, with a twin or three each. Assumes nothing.
 use mathlib.Core.Path.{◌≡◌, refl, sym, ap, ◌∙◌}
 use mathlib.Core.List.{List, [], ◌∷◌}
 use Prim.Native.Nat.{ℕ, zero, suc, ◌+◌}
@@ -15,31 +15,20 @@ use Rattle.float.specs.Root.{root}
 use Rattle.float.specs.Scale.{scale}
 use Rattle.formula.specs.Met.{met_by}
 use Rattle.formula.specs.Range.{sized, sum_is_zero, difference_is_zero, product_is_zero, quotient_is_zero}
-use Rattle.moments.specs.Figures.{whole, half, params}
+use Rattle.moments.specs.Figures.{whole, half}
+use Rattle.moments.specs.declared.Five.{Five}
 use Rattle.step.specs.Steps.{step_4, step_5}
 use Rattle.scaling.specs.Scaling.{fair_walk, Compared}
+use Rattle.fit_state.specs.Figures.{example_state}
 use Rattle.walk.specs.Trail.{step_for}
-use Rattle.walk.specs.Walk.{walk_refusal, walk_of}
+use Rattle.walk.specs.Walk.{walk_of}
 use Rattle.fit_state.specs.declared.M2N.{M2N}
-use Rattle.walk.specs.declared.Reason.TheVariants.{Spent}
+use Rattle.walk.specs.declared.Reason.{Reason}
+use Rattle.walk.specs.declared.Reason.TheVariants.{Spent, Settled, Inadmissible}
 use Rattle.std.specs.Prelude.{Ok}
 use Rattle.scaling.proofs.WalkScale.{walks_scale}
 
--- ---- a state with these moments, at most two steps and the tolerance 2 ^ -20
-abbrev state : ℕ → List Float → M2N
-state variant ms = record {
-  moments = ms;
-  len = 5;
-  epsilon = round binary64 false 1 1048576;
-  factor = whole 5;
-  n_runs = 1;
-  variant = variant;
-  max_iter = 2;
-  new_moments = record { m_1 = nan; m_2 = nan; m_3 = nan; m_4 = nan; m_5 = nan };
-  parameters = params nan nan nan nan nan;
-  error = nan;
-}
-
+-- ---- a state's twin
 -- moments of the orders from j + 1 on, each 2 ^ (order * s) times as large
 abbrev grown : ℤ → ℕ → List Float → List Float
 grown s j [] = []
@@ -60,67 +49,79 @@ fit_at [] h k = tt
 fit_at (x ∷ l) h zero = and_l (fits binary64 x) (all_fit l) h
 fit_at (x ∷ l) h (suc k) = fit_at l (and_r (fits binary64 x) (all_fit l) h) k
 
--- ---- what the theorem asks of two such walks, as one test
-module _ (s : ℤ) (variant : ℕ) (ms : List Float) (μ p : Float) where
-  abbrev first : M2N
-  first = state variant ms
+-- ---- what the theorem asks of a walk and of its twin, as tests
+module _ (m : M2N) (μ p : Float) where
+  abbrev twin : ℤ → M2N
+  twin s = record m { moments = grown s 0 m.moments }
 
-  abbrev second : M2N
-  second = state variant (grown s 0 ms)
+  abbrev Holds : ℤ → Type 0
+  Holds s = Compared s m (twin s) μ (scale s μ) p (walk_of m μ p) (walk_of (twin s) (scale s μ) p)
 
-  abbrev fit : Bool
-  fit = all_fit ms && (all_fit (grown s 0 ms) && (fits binary64 μ && (fits binary64 (scale s μ) && fits binary64 p)))
+  -- the numbers are values of binary64
+  abbrev given : Bool
+  given = all_fit m.moments && (fits binary64 μ && fits binary64 p)
 
-  asked : T fit → T (fair_walk first μ p) → T (fair_walk second (scale s μ) p) → Compared s first second μ (scale s μ) p
-  asked f =
-      let f₁ = and_r (all_fit ms) _ f in
-      let f₂ = and_r (all_fit (grown s 0 ms)) _ f₁ in
-      let f₃ = and_r (fits binary64 μ) _ f₂ in
-      let weight = and_r (fits binary64 (scale s μ)) (fits binary64 p) f₃ in
-      walks_scale s first second μ (scale s μ) p
-      (record { variants = refl; tolerances = refl; limits = refl; numbers = refl; moments = λ k h. grown_at s 0 ms k ∙ ap (λ (n : ℕ). scale (pos (suc n) *ℤ s) (get_or ms k nan)) (zero-add k); means = refl })
-      (record { moments = λ k h. fit_at ms (and_l (all_fit ms) _ f) k; mean = and_l (fits binary64 μ) _ f₂; weight = weight })
-      (record { moments = λ k h. fit_at (grown s 0 ms) (and_l (all_fit (grown s 0 ms)) _ f₁) k; mean = and_l (fits binary64 (scale s μ)) (fits binary64 p) f₃; weight = weight })
+  abbrev scaled : ℤ → Bool
+  scaled s = all_fit (grown s 0 m.moments) && fits binary64 (scale s μ)
 
--- ---- on M from mean 2 and weight 5/8
-abbrev M : List Float
-M = whole 1 ∷ half 9 ∷ whole 16 ∷ half 163 ∷ whole 416 ∷ []
+  abbrev fair_twin : ℤ → Bool
+  fair_twin s = scaled s && fair_walk (twin s) (scale s μ) p
 
-abbrev p : Float
-p = round binary64 false 5 8
+  asked : T (given && fair_walk m μ p) → (s : ℤ) → T (fair_twin s) → Holds s
+  asked f s h =
+      let f₁ = and_l given _ f in
+      let f₂ = and_r (all_fit m.moments) _ f₁ in
+      let weight = and_r (fits binary64 μ) (fits binary64 p) f₂ in
+      let h₁ = and_l (scaled s) _ h in
+      walks_scale m (twin s) μ (scale s μ) p _ _ refl refl
+      (record { moments = λ k _. fit_at m.moments (and_l (all_fit m.moments) _ f₁) k; mean = and_l (fits binary64 μ) (fits binary64 p) f₂; weight = weight })
+      (record { moments = λ k _. fit_at (grown s 0 m.moments) (and_l (all_fit (grown s 0 m.moments)) _ h₁) k; mean = and_r (all_fit (grown s 0 m.moments)) _ h₁; weight = weight })
+      s
+      (record { variants = refl; tolerances = refl; limits = refl; numbers = refl; moments = λ k _. grown_at s 0 m.moments k ∙ ap (λ (n : ℕ). scale (pos (suc n) *ℤ s) (get_or m.moments k nan)) (zero-add k); means = refl })
+      (and_r given _ f) (and_r (scaled s) _ h)
 
-abbrev From : ℤ → ℕ → Type 0
-From s variant = Compared s (first s variant M (whole 2) p) (second s variant M (whole 2) p) (whole 2) (scale s (whole 2)) p
+  abbrev fair_twins : List ℤ → Bool
+  fair_twins [] = true
+  fair_twins (s ∷ l) = fair_twin s && fair_twins l
 
--- the walk takes two steps and is fair, and so it is by 2, by 1/8 and by a large power of two
-pub record Examples (variant : ℕ) (large : ℤ) : Type 0 where
-  pub ends : (walk_of (state variant M) (whole 2) p).outcome ≡ Ok (record { count = 2; reason = Spent })
-  pub doubled : From (pos 1) variant
-  pub eighth : From (negsuc 2) variant
-  pub enlarged : From large variant
+  abbrev AllHold : List ℤ → Type 0
+  AllHold [] = Unit {0}
+  AllHold (s ∷ l) = Holds s × AllHold l
 
-fair_four : T (fair_walk (state 1 M) (whole 2) p)
-unfolding fair_walk walk_refusal step_for step_4 met_by abs_of sized sum_is_zero difference_is_zero product_is_zero quotient_is_zero power_of root round of_int add mul sub div neg eq lt le
-fair_four = tt
+  all_asked : T (given && fair_walk m μ p) → (l : List ℤ) → T (fair_twins l) → AllHold l
+  all_asked f [] h = tt
+  all_asked f (s ∷ l) h = (asked f s (and_l (fair_twin s) (fair_twins l) h), all_asked f l (and_r (fair_twin s) (fair_twins l) h))
 
-pub on_four : Examples 1 (pos 200)
+-- ---- walks on M
+-- a / b
+abbrev part : ℕ → ℕ → Float
+part a b = round binary64 false a b
+
+abbrev M : Five
+M = record { m_1 = whole 1; m_2 = half 9; m_3 = whole 16; m_4 = half 163; m_5 = whole 416 }
+
+abbrev on_M : (variant limit : ℕ) (tolerance : Float) → M2N
+on_M variant limit tolerance = record (example_state M) { variant = variant; max_iter = limit; epsilon = tolerance }
+
+-- a walk ends after so many steps for this reason, and the theorem holds of it and its twin for each s of the list
+pub record Example (m : M2N) (μ p : Float) (count : ℕ) (reason : Reason) (l : List ℤ) : Type 0 where
+  pub ends : (walk_of m μ p).outcome ≡ Ok (record { count = count; reason = reason })
+  pub twins : AllHold m μ p l
+
+-- by 2; by 1/8; by a large power of two
+pub record Examples (variant : ℕ) (large : ℤ) (tolerance μ p : Float) : Type 0 where
+  pub spent : Example (on_M variant 2 (part 1 1048576)) (whole 2) (part 5 8) 2 Spent (pos 1 ∷ negsuc 2 ∷ large ∷ [])
+  pub settled : Example (on_M variant 100 tolerance) μ p 2 Settled (pos 1 ∷ [])
+  pub inadmissible : Example (on_M variant 100 (part 1 1048576)) (half 5) (half 1) 2 Inadmissible (negsuc 2 ∷ [])
+
+shown : (m : M2N) (μ p : Float) (count : ℕ) (reason : Reason) (l : List ℤ) → (walk_of m μ p).outcome ≡ Ok (record { count = count; reason = reason })
+    → T (given m μ p && fair_walk m μ p) → T (fair_twins m μ p l) → Example m μ p count reason l
+shown m μ p count reason l e f h = record { ends = e; twins = all_asked m μ p f l h }
+
+pub on_four : Examples 1 (pos 200) (part 1 8) (half 3) (part 5 8)
 unfolding fits fair_walk walk_of step_for step_4 met_by abs_of sized sum_is_zero difference_is_zero product_is_zero quotient_is_zero power_of root round of_int add mul sub div neg eq lt le
-on_four = record {
-  ends = refl;
-  doubled = asked (pos 1) 1 M (whole 2) p tt fair_four tt;
-  eighth = asked (negsuc 2) 1 M (whole 2) p tt fair_four tt;
-  enlarged = asked (pos 200) 1 M (whole 2) p tt fair_four tt;
-}
+on_four = record { spent = shown _ _ _ _ _ _ refl tt tt; settled = shown _ _ _ _ _ _ refl tt tt; inadmissible = shown _ _ _ _ _ _ refl tt tt }
 
-fair_five : T (fair_walk (state 2 M) (whole 2) p)
-unfolding fair_walk walk_refusal step_for step_5 met_by abs_of sized sum_is_zero difference_is_zero product_is_zero quotient_is_zero power_of root round of_int add mul sub div neg eq lt le
-fair_five = tt
-
-pub on_five : Examples 2 (pos 150)
+pub on_five : Examples 2 (pos 150) (part 1 64) (half 5) (part 13 16)
 unfolding fits fair_walk walk_of step_for step_5 met_by abs_of sized sum_is_zero difference_is_zero product_is_zero quotient_is_zero power_of root round of_int add mul sub div neg eq lt le
-on_five = record {
-  ends = refl;
-  doubled = asked (pos 1) 2 M (whole 2) p tt fair_five tt;
-  eighth = asked (negsuc 2) 2 M (whole 2) p tt fair_five tt;
-  enlarged = asked (pos 150) 2 M (whole 2) p tt fair_five tt;
-}
+on_five = record { spent = shown _ _ _ _ _ _ refl tt tt; settled = shown _ _ _ _ _ _ refl tt tt; inadmissible = shown _ _ _ _ _ _ refl tt tt }

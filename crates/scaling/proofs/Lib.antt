@@ -1,4 +1,5 @@
 pub mod Degrees
 pub mod Examples
+pub mod Held
 pub mod StepScale
 pub mod WalkScale

@@ -6,26 +6,32 @@ use native.Mathlib.Nat.{lt_of_lt_of_le}
 use mathlib.Core.Bool.{Bool, true, false, cond}
 use lib.IntN.{ℤ}
 use lib.Dec.{T, eqb}
-use lib.ListN.{length}
-use lib.Ieee.{Float, binary64, fits}
+use lib.ListN.{length, length-map, get_or}
+use lib.Ieee.{Float, nan, binary64, fits}
 use lib.Ieee.Fits.{and_l, and_r}
 use Rattle.float.specs.Scale.{scale}
 use Rattle.step.specs.declared.Step.{Step}
 use Rattle.step.specs.declared.Step.TheVariants.{Admitted, Inadmissible}
-use Rattle.scaling.specs.Scaling.{Twins, Doubles, fair_step, fair_from, fair_walk, walk_trail, scale_params, scale_step, Compared, WalksScale}
+use Rattle.scaling.specs.Scaling.{Twins, fair_step, fair_from, fair_walk, walk_trail, scale_params, scale_step, ReadOff, Compared, WalksScale}
 use Rattle.walk.specs.Trail.{settled, step_for, trail_from}
-use Rattle.walk.specs.Walk.{needed_by, walk_refusal, stopped, stopped_at, reason_of, trail_of, answered, walk_of, keep_all}
+use Rattle.walk.specs.Walk.{Walked, needed_by, walk_refusal, stopped, stopped_at, reason_of, trail_of, answered, walk_of, keep_all}
 use Rattle.fit_state.specs.declared.M2N.{M2N}
 use Rattle.walk.specs.declared.Ended.{Ended}
 use Rattle.walk.specs.declared.Reason.{Reason}
 use Rattle.walk.specs.declared.Reason.TheVariants.{Spent}
-use Rattle.refusal.specs.Numbers.{Checked, unless_refused}
+use Rattle.refusal.specs.Numbers.{Checked}
 use Rattle.refusal.specs.declared.Refusal.{Refusal}
 use Rattle.std.specs.List.{last_or}
 use Rattle.std.specs.Prelude.{Option, Some, None, Result, Ok, Err}
 use Rattle.std.specs.Result.{is_ok}
 use Rattle.walk.proofs.Trails.{enough}
 use Rattle.scaling.proofs.StepScale.{handed, Alike, Moments, step_scale}
+
+-- ---- every f64 is a value of binary64: those that a walk reads
+pub record Doubles (m : M2N) (μ p : Float) : Type 0 where
+  pub moments : (k : ℕ) → k < m.len → T (fits binary64 (get_or m.moments k nan))
+  pub mean : T (fits binary64 μ)
+  pub weight : T (fits binary64 p)
 
 -- ---- a trail, from a law of its step
 module _ (s : ℤ) (ε : Float) (step step' : Float → Float → Step) (ok ok' : Float → Float → Bool)
@@ -71,11 +77,7 @@ module _ (s : ℤ) (ε : Float) (step step' : Float → Float → Step) (ok ok' 
           (on (settled ε p r.p_1) (trail_from step ε n r.mu_2 r.p_1) (trail_from step' ε n (scale s r.mu_2) r.p_1) _ _
           (rec r.mu_2 r.p_1 (and_l fit fit-p a) (and_l fit' fit-p a') (and_r fit fit-p a)) g h)
 
--- ---- a list of steps scaled has the same length and stops for the same reason
-length-map : (s : ℤ) (t : List Step) → length (map (scale_step s) t) ≡ length t
-length-map s [] = refl
-length-map s (r ∷ t) = ap suc (length-map s t)
-
+-- ---- a trail scaled has as many steps and ends for the same reason
 last_map : (s : ℤ) (o o' : Option Step) (t : List Step) → stopped_at o' ≡ stopped_at o → stopped_at (last_or o' (map (scale_step s) t)) ≡ stopped_at (last_or o t)
 last_map s o o' [] h = h
 last_map s o o' (Inadmissible ∷ t) h = last_map s (Some Inadmissible) (Some Inadmissible) t refl
@@ -84,8 +86,11 @@ last_map s o o' (Admitted r ∷ t) h = last_map s (Some (Admitted r)) (Some (Adm
 stopped_map : (s : ℤ) (t : List Step) → stopped (map (scale_step s) t) ≡ stopped t
 stopped_map s t = last_map s None None t refl
 
-reason_map : (s : ℤ) (limit : ℕ) (t : List Step) → reason_of limit (map (scale_step s) t) ≡ reason_of limit t
-reason_map s limit t = ap₂ (λ (n : ℕ) (k : Reason). cond (eqb n limit) Spent k) (length-map s t) (stopped_map s t)
+abbrev ended : ℕ → List Step → Result Ended Refusal
+ended limit t = Ok (record { count = length t; reason = reason_of limit t })
+
+ended_map : (s : ℤ) (limit : ℕ) (t : List Step) → ended limit (map (scale_step s) t) ≡ ended limit t
+ended_map s limit t = ap₂ (λ (n : ℕ) (r : Reason). Ok (record { count = n; reason = cond (eqb n limit) Spent r })) (length-map t (scale_step s)) (stopped_map s t)
 
 -- ---- the refusals
 -- they ask only of the variant, the number of moments and the weight
@@ -112,55 +117,44 @@ trails_scale s m m' μ p t d d' n g h =
     m.max_iter μ p d.mean d'.mean d.weight g h')
 
 -- ---- what a walk returns, by its refusal
-abbrev outcome_by : Checked → ℕ → List Step → Result Ended Refusal
-outcome_by r limit t = unless_refused r (record { count = length t; reason = reason_of limit t })
-
-outcome_is : (m : M2N) (μ p : Float) → (walk_of m μ p).outcome ≡ outcome_by (walk_refusal m p) m.max_iter (trail_of m μ p)
-unfolding walk_of
-outcome_is m μ p = go (walk_refusal m p)
+read_off : (m : M2N) (μ p : Float) → ReadOff m.max_iter (walk_trail m μ p) (walk_of m μ p)
+unfolding walk_trail walk_of
+read_off m μ p = go (walk_refusal m p)
   where
-    go : (r : Checked) → (answered r m (keep_all m (trail_of m μ p)) (trail_of m μ p)).outcome ≡ outcome_by r m.max_iter (trail_of m μ p)
-    go (Ok u) = refl
-    go (Err e) = refl
-
-abbrev taken : Result Ended Refusal → ℕ
-taken (Ok e) = e.count
-taken (Err e) = 0
-
-counted : (m : M2N) (μ p : Float) (e : Ended) → (walk_of m μ p).outcome ≡ Ok e → e.count ≡ length (walk_trail m μ p)
-unfolding walk_trail
-counted m μ p e h = sym (ap taken (sym (outcome_is m μ p) ∙ h)) ∙ go (walk_refusal m p)
-  where
-    go : (r : Checked) → taken (outcome_by r m.max_iter (trail_of m μ p)) ≡ length (cond (is_ok r) (trail_of m μ p) [])
-    go (Ok u) = refl
-    go (Err e) = refl
+    go : (r : Checked) → ReadOff m.max_iter (cond (is_ok r) (trail_of m μ p) []) (answered r m (keep_all m (trail_of m μ p)) (trail_of m μ p))
+    go (Ok u) = record { count = λ e h. cc; reason = λ e h. cc }
+    go (Err f) = record { count = λ e h. cc; reason = λ e h. cc }
 
 -- ---- the theorem
 compared : (s : ℤ) (m m' : M2N) (μ p : Float) → Twins s m m' μ (scale s μ) → Doubles m μ p → Doubles m' (scale s μ) p
-    → T (fair_walk m μ p) → T (fair_walk m' (scale s μ) p) → Compared s m m' μ (scale s μ) p
-unfolding walk_trail fair_walk
+    → T (fair_walk m μ p) → T (fair_walk m' (scale s μ) p) → Compared s m m' μ (scale s μ) p (walk_of m μ p) (walk_of m' (scale s μ) p)
+unfolding walk_trail fair_walk walk_of
 compared s m m' μ p t d d' g h =
     record {
-      outcomes = outcome_is m' (scale s μ) p ∙ ap₂ (λ (r : Checked) (limit : ℕ). outcome_by r limit (trail_of m' (scale s μ) p)) same t.limits ∙ ends (walk_refusal m p) alike ∙ sym (outcome_is m μ p);
-      count = counted m μ p;
-      count' = counted m' (scale s μ) p;
+      outcomes = subst (λ (r : Checked). (answer m' (scale s μ) r).outcome ≡ (answer m μ (walk_refusal m p)).outcome) (sym same) (ends (walk_refusal m p) alike);
+      first = read_off m μ p;
+      second = read_off m' (scale s μ) p;
       trails = ap (λ (r : Checked). cond (is_ok r) (trail_of m' (scale s μ) p) []) same ∙ lists (walk_refusal m p) alike;
     }
   where
+    answer : M2N → Float → Checked → Walked
+    answer m μ r = answered r m (keep_all m (trail_of m μ p)) (trail_of m μ p)
+
     same : walk_refusal m' p ≡ walk_refusal m p
     same = refusals m m' p t.variants t.numbers
 
     alike : walk_refusal m p ≡ Ok tt → trail_of m' (scale s μ) p ≡ map (scale_step s) (trail_of m μ p)
     alike e = trails_scale s m m' μ p t d d' (enough m p e) (subst (λ (r : Checked). T (cond (is_ok r) (fair_trail m μ p) true)) e g) (subst (λ (r : Checked). T (cond (is_ok r) (fair_trail m' (scale s μ) p) true)) (same ∙ e) h)
 
-    ends : (r : Checked) → (r ≡ Ok tt → trail_of m' (scale s μ) p ≡ map (scale_step s) (trail_of m μ p)) → outcome_by r m.max_iter (trail_of m' (scale s μ) p) ≡ outcome_by r m.max_iter (trail_of m μ p)
-    ends (Ok u) e = ap (outcome_by (Ok tt) m.max_iter) (e refl) ∙ ap₂ (λ (n : ℕ) (r : Reason). Ok (record { count = n; reason = r })) (length-map s (trail_of m μ p)) (reason_map s m.max_iter (trail_of m μ p))
+    ends : (r : Checked) → (r ≡ Ok tt → trail_of m' (scale s μ) p ≡ map (scale_step s) (trail_of m μ p)) → (answer m' (scale s μ) r).outcome ≡ (answer m μ r).outcome
+    ends (Ok u) e = ap₂ ended t.limits (e refl) ∙ ended_map s m.max_iter (trail_of m μ p)
     ends (Err f) e = refl
 
     lists : (r : Checked) → (r ≡ Ok tt → trail_of m' (scale s μ) p ≡ map (scale_step s) (trail_of m μ p)) → cond (is_ok r) (trail_of m' (scale s μ) p) [] ≡ map (scale_step s) (cond (is_ok r) (trail_of m μ p) [])
     lists (Ok u) e = e refl
     lists (Err f) e = refl
 
-pub walks_scale : WalksScale
-walks_scale s m m' μ μ' p t d d' g h =
-    subst (λ (x : Float). Twins s m m' μ x → Doubles m' x p → T (fair_walk m' x p) → Compared s m m' μ x p) (sym t.means) (λ t d' h. compared s m m' μ p t d d' g h) t d' h
+pub walks_scale : (m m' : M2N) (μ μ' p : Float) (w w' : Walked) → w ≡ walk_of m μ p → w' ≡ walk_of m' μ' p → Doubles m μ p → Doubles m' μ' p → WalksScale m m' μ μ' p w w'
+walks_scale m m' μ μ' p w w' e e' d d' s t g h =
+    rw (e, e')
+    (subst (λ (x : Float). Twins s m m' μ x → Doubles m' x p → T (fair_walk m' x p) → Compared s m m' μ x p (walk_of m μ p) (walk_of m' x p)) (sym t.means) (λ t d' h. compared s m m' μ p t d d' g h) t d' h)
