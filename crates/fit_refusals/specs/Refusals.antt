@@ -1,9 +1,8 @@
 -- What the grid and several runs turn away, in document 01's order. Definitions only.
 use Rattle.std.specs.Prelude.{List, Bool, true, ◌&&◌, ◌||◌, not, cond, ℕ, zero, suc, ◌*◌, ◌-◌, ltb, eqb, length, get_or, Float, Ok, Err}
-use Rattle.std.specs.Float.{nan}
+use Rattle.std.specs.Float.{nan, float_is_finite}
 use Rattle.std.specs.Float.Ieee.{lt}
 use Rattle.float.specs.Constants.{nought}
-use Rattle.float.specs.Leaves.{finite}
 use Rattle.float.specs.Upper.{upper_of}
 use Rattle.refusal.specs.Numbers.{Checked}
 use Rattle.refusal.specs.declared.Refusal.TheVariants.{TooFewMoments, TooManyMoments, UnknownVariant, BadEpsilon, TooManyRows, TooFewWeights, BadWeight, TooLittleRoom, TooManyRuns}
@@ -25,7 +24,7 @@ is_variant variant = eqb variant 1 || eqb variant 2
 
 -- finite and above 0
 abbrev pub is_spacing : Float → Bool
-is_spacing epsilon = finite epsilon && lt nought epsilon
+is_spacing epsilon = float_is_finite epsilon && lt nought epsilon
 
 -- fewer weights than are needed; one that would be used is out of range
 abbrev pub weights_refusal : List Float → ℕ → Checked

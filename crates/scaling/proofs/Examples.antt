@@ -9,13 +9,14 @@ use lib.Dec.{T}
 use lib.ListN.{get_or}
 use lib.Ieee.{Float, nan, binary64, fits, round, of_int, add, sub, mul, div, neg, eq, lt, le}
 use lib.Ieee.Fits.{and_l, and_r}
-use Rattle.float.specs.Leaves.{abs_of}
+use Rattle.std.specs.Float.{float_is_finite}
+use Rattle.float.specs.Leaves.{abs_of, as_f64}
 use Rattle.float.specs.Power.{power_of}
 use Rattle.float.specs.Root.{root}
 use Rattle.float.specs.Scale.{scale}
 use Rattle.formula.specs.Met.{met_by}
 use Rattle.formula.specs.Range.{sized, sum_is_zero, difference_is_zero, product_is_zero, quotient_is_zero}
-use Rattle.moments.specs.Figures.{whole, half, params}
+use Rattle.moments.specs.Figures.{half, params}
 use Rattle.step.specs.Steps.{step_4, step_5}
 use Rattle.scaling.specs.Scaling.{fair_walk, Compared}
 use Rattle.walk.specs.Trail.{step_for}
@@ -31,7 +32,7 @@ state variant ms = record {
   moments = ms;
   len = 5;
   epsilon = round binary64 false 1 1048576;
-  factor = whole 5;
+  factor = as_f64 5;
   n_runs = 1;
   variant = variant;
   max_iter = 2;
@@ -84,43 +85,43 @@ module _ (s : ℤ) (variant : ℕ) (ms : List Float) (μ p : Float) where
 
 -- ---- on M from mean 2 and weight 5/8
 abbrev M : List Float
-M = whole 1 ∷ half 9 ∷ whole 16 ∷ half 163 ∷ whole 416 ∷ []
+M = as_f64 1 ∷ half 9 ∷ as_f64 16 ∷ half 163 ∷ as_f64 416 ∷ []
 
 abbrev p : Float
 p = round binary64 false 5 8
 
 abbrev From : ℤ → ℕ → Type 0
-From s variant = Compared s (first s variant M (whole 2) p) (second s variant M (whole 2) p) (whole 2) (scale s (whole 2)) p
+From s variant = Compared s (first s variant M (as_f64 2) p) (second s variant M (as_f64 2) p) (as_f64 2) (scale s (as_f64 2)) p
 
 -- the walk takes two steps and is fair, and so it is by 2, by 1/8 and by a large power of two
 pub record Examples (variant : ℕ) (large : ℤ) : Type 0 where
-  pub ends : (walk_of (state variant M) (whole 2) p).outcome ≡ Ok (record { count = 2; reason = Spent })
+  pub ends : (walk_of (state variant M) (as_f64 2) p).outcome ≡ Ok (record { count = 2; reason = Spent })
   pub doubled : From (pos 1) variant
   pub eighth : From (negsuc 2) variant
   pub enlarged : From large variant
 
-fair_four : T (fair_walk (state 1 M) (whole 2) p)
-unfolding fair_walk walk_refusal step_for step_4 met_by abs_of sized sum_is_zero difference_is_zero product_is_zero quotient_is_zero power_of root round of_int add mul sub div neg eq lt le
+fair_four : T (fair_walk (state 1 M) (as_f64 2) p)
+unfolding fair_walk walk_refusal step_for step_4 met_by abs_of sized sum_is_zero difference_is_zero product_is_zero quotient_is_zero power_of root round of_int add mul sub div neg eq lt le float_is_finite
 fair_four = tt
 
 pub on_four : Examples 1 (pos 200)
 unfolding fits fair_walk walk_of step_for step_4 met_by abs_of sized sum_is_zero difference_is_zero product_is_zero quotient_is_zero power_of root round of_int add mul sub div neg eq lt le
 on_four = record {
   ends = refl;
-  doubled = asked (pos 1) 1 M (whole 2) p tt fair_four tt;
-  eighth = asked (negsuc 2) 1 M (whole 2) p tt fair_four tt;
-  enlarged = asked (pos 200) 1 M (whole 2) p tt fair_four tt;
+  doubled = asked (pos 1) 1 M (as_f64 2) p tt fair_four tt;
+  eighth = asked (negsuc 2) 1 M (as_f64 2) p tt fair_four tt;
+  enlarged = asked (pos 200) 1 M (as_f64 2) p tt fair_four tt;
 }
 
-fair_five : T (fair_walk (state 2 M) (whole 2) p)
-unfolding fair_walk walk_refusal step_for step_5 met_by abs_of sized sum_is_zero difference_is_zero product_is_zero quotient_is_zero power_of root round of_int add mul sub div neg eq lt le
+fair_five : T (fair_walk (state 2 M) (as_f64 2) p)
+unfolding fair_walk walk_refusal step_for step_5 met_by abs_of sized sum_is_zero difference_is_zero product_is_zero quotient_is_zero power_of root round of_int add mul sub div neg eq lt le float_is_finite
 fair_five = tt
 
 pub on_five : Examples 2 (pos 150)
-unfolding fits fair_walk walk_of step_for step_5 met_by abs_of sized sum_is_zero difference_is_zero product_is_zero quotient_is_zero power_of root round of_int add mul sub div neg eq lt le
+unfolding fits fair_walk walk_of step_for step_5 met_by abs_of sized sum_is_zero difference_is_zero product_is_zero quotient_is_zero power_of root round of_int add mul sub div neg eq lt le float_is_finite
 on_five = record {
   ends = refl;
-  doubled = asked (pos 1) 2 M (whole 2) p tt fair_five tt;
-  eighth = asked (negsuc 2) 2 M (whole 2) p tt fair_five tt;
-  enlarged = asked (pos 150) 2 M (whole 2) p tt fair_five tt;
+  doubled = asked (pos 1) 2 M (as_f64 2) p tt fair_five tt;
+  eighth = asked (negsuc 2) 2 M (as_f64 2) p tt fair_five tt;
+  enlarged = asked (pos 150) 2 M (as_f64 2) p tt fair_five tt;
 }

@@ -1,4 +1,5 @@
 pub mod Constants
+pub mod ExactSteps
 pub mod Parts
 pub mod Steps
 pub mod Weight
