@@ -17,7 +17,7 @@ use Rattle.walk.specs.Trail.{step_for}
 use Rattle.walk.specs.Squares.{sum_of_squares}
 use Rattle.walk.specs.Walk.{error_of, walk_of}
 use Rattle.walk.specs.declared.M2N.{M2N}
-use Rattle.fit_refusals.specs.Refusals.{rows_of, grid_refusal}
+use Rattle.fit_refusals.specs.Refusals.{rows_of, all_weights, grid_refusal}
 use Rattle.grid.specs.Rows.{begun, centred_state, moved_error}
 use Rattle.fit_runs.specs.Runs.{rows_in, flat_of}
 use Rattle.grid.specs.Search.{deviation_of, fit_of}
@@ -51,7 +51,7 @@ abbrev refusal_at : ℕ → ℕ
 refusal_at n = status_of (grid_refusal (on_M 1 (part n)) (part n) 1 [])
 
 pub refusals_at : (refusal_at 1 ∷ refusal_at 2 ∷ refusal_at 131072 ∷ refusal_at 262144 ∷ []) ≡ 0 ∷ 6 ∷ 6 ∷ 5 ∷ []
-unfolding grid_refusal rows_of upper_of larger_of sub div eq lt round to_unsigned float_is_finite
+unfolding grid_refusal rows_of all_weights upper_of larger_of sub div eq lt round to_unsigned float_is_finite
 refusals_at = refl
 
 -- the row of a search with epsilon 1/4 and the weight 1/2 three times

@@ -3,7 +3,7 @@
 
 ghost use Rattle.std.specs.Prelude.{◌≡◌, ◌≤◌};
 ghost use Rattle.std.specs.List.{list_all};
-ghost use Rattle.fit_refusals.specs.Refusals.{grid_refusal, is_spacing, rows_of, rows_refusal, runs_refusal, weights_refusal};
+ghost use Rattle.fit_refusals.specs.Refusals.{grid_refusal, is_spacing, rows_of, runs_refusal};
 ghost use Rattle.walk.specs.Walk.{is_weight};
 
 use refusal::Refusal;
@@ -23,29 +23,6 @@ fn are_weights(numbers: &[f64]) -> bool
     numbers.iter().all(|&p_1| walk::is_weight(p_1))
 }
 
-#[tactic(auto, using(crate::proofs::Known::all_of_first))]
-fn check_weights(weights: &[f64], needed: usize) -> Result<(), Refusal>
-    ensures { result ≡ weights_refusal weights.now needed }
-{
-    if weights.len() < needed {
-        return Err(Refusal::TooFewWeights);
-    }
-    if !are_weights(&weights[..needed]) {
-        return Err(Refusal::BadWeight);
-    }
-    Ok(())
-}
-
-fn check_rows(weights: &[f64], runs: usize, rows: usize) -> Result<(), Refusal>
-    requires { runs ≤ 64 }
-    ensures { result ≡ rows_refusal weights.now runs rows }
-{
-    if 131072 < rows {
-        return Err(Refusal::TooManyRows);
-    }
-    check_weights(weights, runs * rows)
-}
-
 // Finite and above 0.
 fn is_spacing(epsilon: f64) -> bool
     ensures { result ≡ is_spacing epsilon }
@@ -53,8 +30,8 @@ fn is_spacing(epsilon: f64) -> bool
     number::is_finite(epsilon) && 0.0 < epsilon
 }
 
-// The grid's, with the weights counted for so many searches.
-#[tactic(auto, unfolding(crate::specs::Refusals::grid_refusal))]
+// Document 01's entry "Grid", with the weights counted for so many searches.
+#[tactic(auto, using(crate::proofs::Known::all_of_first), unfolding(crate::specs::Refusals::grid_refusal))]
 fn check_searches(m: M2N, epsilon: f64, runs: usize, weights: &[f64]) -> Result<(), Refusal>
     requires { runs ≤ 64 }
     ensures { result ≡ grid_refusal m epsilon runs weights.now }
@@ -64,18 +41,29 @@ fn check_searches(m: M2N, epsilon: f64, runs: usize, weights: &[f64]) -> Result<
     if !is_spacing(epsilon) {
         return Err(Refusal::BadEpsilon);
     }
-    check_rows(weights, runs, rows_of(epsilon))
+    let rows = rows_of(epsilon);
+    if 131072 < rows {
+        return Err(Refusal::TooManyRows);
+    }
+    let needed = runs * rows;
+    if weights.len() < needed {
+        return Err(Refusal::TooFewWeights);
+    }
+    if !are_weights(&weights[..needed]) {
+        return Err(Refusal::BadWeight);
+    }
+    Ok(())
 }
 
-// Document 01's entry "Grid". `epsilon` is the one in force.
+// What one search turns away. `epsilon` is the one in force.
 pub fn check_grid(m: M2N, epsilon: f64, weights: &[f64]) -> Result<(), Refusal>
     ensures { result ≡ grid_refusal m epsilon 1 weights.now }
 {
     check_searches(m, epsilon, 1, weights)
 }
 
-// Its entry "Several runs". None at all look at nothing.
-#[tactic(auto, unfolding(crate::specs::Refusals::runs_refusal))]
+// Document 01's entry "Several runs". Zero runs return without looking at any argument.
+#[tactic(auto, unfolding(crate::specs::Refusals::grid_refusal, crate::specs::Refusals::runs_refusal))]
 pub fn check_runs(m: M2N, weights: &[f64], places: usize) -> Result<(), Refusal>
     ensures { result ≡ runs_refusal m weights.now places }
 {

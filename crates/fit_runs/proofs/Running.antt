@@ -1,42 +1,32 @@
 -- Several runs: what is known of those that are not refused, how many rows there are, and what is answered where they are refused. Assumes nothing.
 use mathlib.Core.Path.{◌≡◌, refl, sym, ap, ◌∙◌}
 use mathlib.Core.List.{List, []}
-use mathlib.Core.Bool.{Bool, true, false, cond}
 use Prim.Native.Nat.{ℕ, zero, suc, ◌+◌, ◌*◌, ◌-◌, ◌≤◌, ◌<◌}
 use native.Mathlib.Omega.{arith}
 use native.Mathlib.Numerals.{add-one}
-use lib.Dec.{eqb, ltb}
 use lib.ListN.{length, take, drop, replicate, length-append}
 use lib.Ieee.{Float, binary64, of_bits}
-use borrow.Author.Tests.{eqb-true, ltb-false}
 use borrow.Author.Rules.{part_to_end}
 use Rattle.walk.specs.declared.M2N.{M2N}
-use Rattle.std.proofs.Common.{Option, Some, None, Result, Ok, Err}
+use Rattle.std.proofs.Common.{Option, Some, None, Result, Ok, Err, ◌⊎◌, inl, inr}
 use Rattle.refusal.specs.Numbers.{Checked, unless_refused}
 use Rattle.refusal.specs.declared.Refusal.{Refusal}
-use Rattle.refusal.specs.declared.Refusal.TheVariants.{TooManyRuns, TooLittleRoom}
-use Rattle.fit_refusals.specs.Refusals.{rows_of, grid_refusal, first_of, runs_refusal}
+use Rattle.fit_refusals.specs.Known.{RunsKnown}
+use Rattle.fit_refusals.specs.Refusals.{rows_of, runs_refusal}
 use Rattle.fit_runs.specs.Runs.{Runnable, rows_out, rows_to, unrefused, run_rows, mp_fit, flat_of, flat_in64, rows_at, put_in, all_runs, flat_fit}
 use Rattle.grid.specs.Search.{Fitted, single_fit}
 use Rattle.fit_runs.specs.declared.Flat.{Flat}
 use Rattle.grid_rows.specs.declared.FitResultRow.{FitResultRow}
 use Rattle.fit_runs.proofs.Flats.{length_flat_64, put_flat, rows_back}
-use Rattle.fit_refusals.proofs.Known.{grid_known}
+use Rattle.fit_refusals.proofs.Known.{none_or_known}
 
 -- ---- what is known of several runs
 known : (m : M2N) (ws : List Float) (places : ℕ) → runs_refusal m ws places ≡ Ok tt → Runnable m ws × (m.n_runs ≤ places)
-unfolding runs_refusal
-known m ws places e =
-    go (eqb m.n_runs 0) (ltb 64 m.n_runs) (ltb places m.n_runs) (grid_refusal m m.epsilon m.n_runs ws) (eqb-true m.n_runs 0) (ltb-false 64 m.n_runs) (ltb-false places m.n_runs) (λ h. let (_, a, b) = grid_known m m.epsilon m.n_runs ws h in (a, b)) e
+known m ws places e = go (none_or_known m ws places e)
   where
-    go : (a b c : Bool) (g : Checked) → (a ≡ true → m.n_runs ≡ 0) → (b ≡ false → m.n_runs ≤ 64) → (c ≡ false → m.n_runs ≤ places)
-        → (g ≡ Ok tt → (rows_of m.epsilon ≤ 131072) × (m.n_runs * rows_of m.epsilon ≤ length ws))
-        → ◌≡◌ {A = Checked} (cond a (Ok tt) (cond b (Err TooManyRuns) (first_of g (cond c (Err TooLittleRoom) (Ok tt))))) (Ok tt) → Runnable m ws × (m.n_runs ≤ places)
-    go true b c g p q s t e = let z : m.n_runs ≡ 0 = p refl in ((omega arith, λ h. absurd (omega arith)), omega arith)
-    go false true c g p q s t e = cc
-    go false false true (Ok u) p q s t e = cc
-    go false false false (Ok u) p q s t e = ((q refl, λ h. t refl), s refl)
-    go false false c (Err x) p q s t e = cc
+    go : (m.n_runs ≡ 0) ⊎ RunsKnown m ws places → Runnable m ws × (m.n_runs ≤ places)
+    go (inl z) = ((omega arith, λ h. absurd (omega arith)), omega arith)
+    go (inr k) = ((k.few_runs, λ h. (k.grid.few_rows, k.grid.enough_weights)), k.enough_places)
 
 pub runs_known : (m : M2N) (ws : List Float) (places : ℕ) → runs_refusal m ws places ≡ Ok tt → Runnable m ws
 runs_known m ws places e = (known m ws places e).0

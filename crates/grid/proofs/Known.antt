@@ -23,7 +23,7 @@ unrefused l n hl hn = rw (hl, le-ltb 16 n hn, le-ltb 16 (at_least_one n) (omega 
 
 -- ---- what a search rests on, where it is not refused
 pub served : (m : M2N) (epsilon : Float) (weights : List Float) → grid_refusal m epsilon 1 weights ≡ Ok tt → Served m epsilon weights
-served m epsilon weights e = let (a, b, c) = grid_known m epsilon 1 weights e in (a, b, omega (arith, c))
+served m epsilon weights e = let k = grid_known m epsilon 1 weights e in (k.few_moments, k.few_rows, omega arith)
 
 -- ---- parameters that are all one number
 pub all_of : (p : Params) (x : Float) → (p.mu_1 ≡ x) × ((p.mu_2 ≡ x) × ((p.sigma_1 ≡ x) × ((p.sigma_2 ≡ x) × (p.p_1 ≡ x)))) → p ≡ params x x x x x

@@ -1,12 +1,11 @@
 -- What is left of a walk after k steps, and how one step changes it: by the step's answer and the test for settling. Assumes nothing.
 use mathlib.Core.Path.{◌≡◌, refl, sym, ap, ◌∙◌}
 use mathlib.Core.List.{List, [], ◌∷◌}
-use mathlib.Core.Bool.{Bool, true, false, not, ◌||◌, ◌&&◌, cond}
+use mathlib.Core.Bool.{Bool, true, false, not, ◌||◌, cond}
 use Prim.Native.Nat.{ℕ, suc, ◌+◌, ◌-◌, ◌≤◌, ◌<◌, min}
 use lib.ListN.{length}
-use lib.Dec.{eqb, ltb}
-use lib.Ieee.{Float, binary64, sub, lt, le}
-use Rattle.float.specs.Constants.{nought, one}
+use lib.Dec.{eqb}
+use lib.Ieee.{Float, binary64, sub, lt}
 use Rattle.float.specs.Leaves.{abs_of}
 use native.Mathlib.Omega.{arith}
 use borrow.Author.Tests.{eq-eqb, eqb-true, ltb-false}
@@ -16,9 +15,8 @@ use Rattle.moments.specs.Mixture.{get_moments}
 use Rattle.moments.specs.Lists.{five_of, listed}
 use Rattle.refusal.proofs.Refusing as refusing
 use Rattle.refusal.proofs.Refusing.{accepted}
-use Rattle.refusal.specs.Numbers.{Checked}
+use Rattle.refusal.proofs.Rules.{none_holds}
 use Rattle.refusal.specs.declared.Refusal.{Refusal}
-use Rattle.refusal.specs.declared.Refusal.TheVariants.{TooFewMoments, TooManyMoments, UnknownVariant, BadWeight}
 use Rattle.std.specs.Prelude.{Ok, Err}
 use Rattle.moments.specs.declared.Five.{Five}
 use Rattle.moments.specs.declared.Params.{Params}
@@ -26,10 +24,10 @@ use Rattle.step.specs.Steps.{sigma2_squared}
 use Rattle.step.specs.declared.Step.{Step}
 use Rattle.step.specs.declared.Step.TheVariants.{Admitted, Inadmissible}
 use Rattle.walk.proofs.Sums.{error_is}
-use Rattle.walk.specs.Parts.{chosen, ended_after, fit_after, fit_part, variant_unless, walk_variant, walked_to, with_fit_of}
+use Rattle.walk.specs.Parts.{chosen, ended_after, fit_after, fit_part, walk_variant, walked_to, with_fit_of}
 use Rattle.walk.specs.Trail.{settled, step_for, trail_from}
-use Rattle.walk.specs.Variants.{variant_number}
-use Rattle.walk.specs.Walk.{Walked, later_refusal, needed_by, squares, better, keep_of, keep_all, trail_of, stopped, walk_refusal, answered, walk_of}
+use Rattle.walk.specs.Variants.{is_variant, variant_at, variant_number}
+use Rattle.walk.specs.Walk.{Walked, needed_by, squares, better, keep_of, keep_all, trail_of, stopped, walk_refusal, walk_rules, answered, walk_of}
 use Rattle.walk.specs.declared.M2N.{M2N}
 use Rattle.walk.specs.declared.Fit.{Fit}
 use Rattle.walk.specs.declared.Ended.{Ended}
@@ -134,37 +132,26 @@ goes_on m f g k μ p r h e hg s =
 -- a walk not refused has the moments that its step reads
 pub enough : (m : M2N) (p : Float) → walk_refusal m p ≡ Ok tt → needed_by m.variant ≤ m.len
 unfolding walk_refusal
-enough m p e = go (not (eqb m.variant 1 || eqb m.variant 2)) (ltb m.len (needed_by m.variant)) (ltb-false m.len (needed_by m.variant)) e
+enough m p e = let h = none_holds (walk_rules m p) e in search ltb-false
+
+variant_is : (n : ℕ) → not (is_variant n) ≡ false → variant_number (variant_at n) ≡ n
+variant_is n h = go (eqb n 1) (eqb n 2) (eqb-true n 1) (eqb-true n 2) h
   where
-    go : (a b : Bool) → (b ≡ false → needed_by m.variant ≤ m.len)
-        → ◌≡◌ {A = Checked} (cond a (Err UnknownVariant) (cond b (Err TooFewMoments) (cond (ltb 16 m.len) (Err TooManyMoments) (cond (le nought p && lt p one) (Ok tt) (Err BadWeight))))) (Ok tt) → needed_by m.variant ≤ m.len
-    go true b f e = cc
-    go false true f e = cc
-    go false false f e = f refl
+    go : (a b : Bool) → (a ≡ true → n ≡ 1) → (b ≡ true → n ≡ 2) → not (a || b) ≡ false → variant_number (cond a FourMoments FiveMoments) ≡ n
+    go true b f g h = sym (f refl)
+    go false true f g h = sym (g refl)
+    go false false f g h = cc
 
 -- ---- the check of a walk
--- the refusals by the two tests of the variant
 pub is_allowed : (m : M2N) (p : Float) (v : Variant) → Ok v ≡ walk_variant m p → (variant_number v ≡ m.variant) × (Ok tt ≡ walk_refusal m p)
 unfolding walk_refusal
-is_allowed m p v h = go (eqb m.variant 1) (eqb m.variant 2) (eqb-true m.variant 1) (eqb-true m.variant 2) h
-  where
-    go : (a b : Bool) → (a ≡ true → m.variant ≡ 1) → (b ≡ true → m.variant ≡ 2) → Ok v ≡ variant_unless (cond a (Ok FourMoments) (cond b (Ok FiveMoments) (Err UnknownVariant))) m.len p
-        → (variant_number v ≡ m.variant) × (Ok tt ≡ cond (not (a || b)) (Err UnknownVariant) (later_refusal m.len (cond a 4 5) p))
-    go true b f g e = let k = accepted (later_refusal m.len 4 p) FourMoments v e in (ap variant_number k.1 ∙ sym (f refl), k.0)
-    go false true f g e = let k = accepted (later_refusal m.len 5 p) FiveMoments v e in (ap variant_number k.1 ∙ sym (g refl), k.0)
-    go false false f g e = cc
-
-is_refused : (m : M2N) (p : Float) (e : Refusal) → Err e ≡ walk_variant m p → Err e ≡ walk_refusal m p
-unfolding walk_refusal
-is_refused m p e h = go (eqb m.variant 1) (eqb m.variant 2) h
-  where
-    go : (a b : Bool) → Err e ≡ variant_unless (cond a (Ok FourMoments) (cond b (Ok FiveMoments) (Err UnknownVariant))) m.len p
-        → Err e ≡ cond (not (a || b)) (Err UnknownVariant) (later_refusal m.len (cond a 4 5) p)
-    go true b h = refusing.refused (later_refusal m.len 4 p) FourMoments e h
-    go false true h = refusing.refused (later_refusal m.len 5 p) FiveMoments e h
-    go false false h = grind arith
+is_allowed m p v h =
+    let k = accepted (walk_refusal m p) (variant_at m.variant) v h in
+    let none = none_holds (walk_rules m p) (sym k.0) in
+    (ap variant_number k.1 ∙ variant_is m.variant none.0, k.0)
 
 -- ---- a walk that is refused
 pub refused : (m : M2N) (μ p : Float) (e : Refusal) → Err e ≡ walk_variant m p → record { state = m; outcome = Err e } ≡ walk_of m μ p
 unfolding walk_of
-refused m μ p e h = ap (λ x. answered x m (keep_all m (trail_of m μ p)) (trail_of m μ p)) (is_refused m p e h)
+refused m μ p e h =
+    ap (λ x. answered x m (keep_all m (trail_of m μ p)) (trail_of m μ p)) (refusing.refused (walk_refusal m p) (variant_at m.variant) e h)

@@ -1,5 +1,5 @@
 -- What the parts of the walk promise each other: the fit part of the state by itself. Definitions only.
-use Rattle.std.specs.Prelude.{Bool, true, false, cond, eqb, ◌≡◌, ℕ, ◌+◌, ◌*◌, ◌-◌, ◌≤◌, min, Float, Result, Ok, Err}
+use Rattle.std.specs.Prelude.{Bool, true, false, cond, eqb, ◌≡◌, ℕ, ◌+◌, ◌*◌, ◌-◌, ◌≤◌, min, Float, Result, Ok}
 use Rattle.std.specs.Float.Ieee.{lt}
 use Rattle.moments.specs.Lists.{listed}
 use Rattle.moments.specs.Mixture.{get_moments}
@@ -7,8 +7,8 @@ use Rattle.moments.specs.declared.Five.{Five}
 use Rattle.moments.specs.declared.Params.{Params}
 use Rattle.refusal.specs.Numbers.{unless_refused}
 use Rattle.refusal.specs.declared.Refusal.{Refusal}
-use Rattle.walk.specs.Variants.{variant_number, variant_of}
-use Rattle.walk.specs.Walk.{Walked, later_refusal, needed_by, squares, with_fit}
+use Rattle.walk.specs.Variants.{variant_at}
+use Rattle.walk.specs.Walk.{Walked, shape_refusal, squares, walk_refusal, with_fit}
 use Rattle.walk.specs.declared.M2N.{M2N}
 use Rattle.walk.specs.declared.Ended.{Ended}
 use Rattle.walk.specs.declared.Fit.{Fit}
@@ -35,13 +35,12 @@ fit_after len a f r = let n = get_moments r in let e = squares (listed a) (liste
 abbrev pub with_fit_of : M2N → Fit → M2N
 with_fit_of m f = with_fit m f.new_moments f.parameters f.error
 
--- the state's variant, if its walk from the weight is not refused
-abbrev pub variant_unless : Result Variant Refusal → ℕ → Float → Result Variant Refusal
-variant_unless (Ok v) len p = unless_refused (later_refusal len (needed_by (variant_number v)) p) v
-variant_unless (Err e) len p = Err e
+-- the state's variant, unless its walk is refused for the state, or from the weight
+abbrev pub shape_variant : M2N → Result Variant Refusal
+shape_variant m = unless_refused (shape_refusal m) (variant_at m.variant)
 
 abbrev pub walk_variant : M2N → Float → Result Variant Refusal
-walk_variant m p = variant_unless (variant_of m.variant) m.len p
+walk_variant m p = unless_refused (walk_refusal m p) (variant_at m.variant)
 
 -- how a walk ended that was stopped so: spent where the count is the limit
 abbrev pub ended_after : ℕ → ℕ → Reason → Ended

@@ -1,5 +1,5 @@
 -- What a walk answers: refused, or its trail's length, the reason, and the best of what was met. Definitions only.
-use Rattle.std.specs.Prelude.{List, [], ◌∷◌, Bool, true, false, ◌&&◌, ◌||◌, not, cond, ℕ, zero, suc, min, ltb, eqb, length, get_or, Float, Ok, Err}
+use Rattle.std.specs.Prelude.{List, [], ◌∷◌, ◌++◌, Bool, true, false, ◌&&◌, not, cond, ℕ, zero, suc, min, ltb, eqb, length, get_or, Float, Ok, Err}
 use Rattle.std.specs.Float.{nan, binary64}
 use Rattle.std.specs.Float.Ieee.{add, sub, mul, lt, le}
 use Rattle.float.specs.Constants.{nought, one, minus_nought}
@@ -9,10 +9,12 @@ pub use Rattle.moments.specs.Lists.{five_of}
 use Rattle.moments.specs.declared.Five.{Five}
 use Rattle.moments.specs.declared.Params.{Params}
 use Rattle.refusal.specs.Numbers.{Checked}
+use Rattle.refusal.specs.Rules.{Rule, ◌⇒◌, first_refusal}
 use Rattle.refusal.specs.declared.Refusal.TheVariants.{TooFewMoments, TooManyMoments, UnknownVariant, BadWeight}
 use Rattle.step.specs.declared.Step.{Step}
 use Rattle.step.specs.declared.Step.TheVariants.{Admitted, Inadmissible}
 use Rattle.walk.specs.Trail.{step_for, trail_from}
+use Rattle.walk.specs.Variants.{is_variant}
 use Rattle.walk.specs.declared.M2N.{M2N}
 use Rattle.walk.specs.declared.Reason.{Reason}
 use Rattle.walk.specs.declared.Reason.TheVariants as reason
@@ -88,15 +90,23 @@ needed_by variant = cond (eqb variant 1) 4 5
 abbrev pub is_weight : Float → Bool
 is_weight p = le nought p && lt p one
 
-abbrev pub later_refusal : ℕ → ℕ → Float → Checked
-later_refusal len needed p =
-    cond (ltb len needed) (Err TooFewMoments)
-    (cond (ltb 16 len) (Err TooManyMoments)
-    (cond (is_weight p) (Ok tt) (Err BadWeight)))
+-- for the state: variant not 1 or 2; fewer than 4 moments (variant 2: 5); more than 16
+abbrev pub shape_rules : M2N → List Rule
+shape_rules m =
+    not (is_variant m.variant) ⇒ UnknownVariant
+    ∷ ltb m.len (needed_by m.variant) ⇒ TooFewMoments
+    ∷ ltb 16 m.len ⇒ TooManyMoments
+    ∷ []
 
--- variant not 1 or 2; fewer than 4 moments (variant 2: 5); more than 16; weight not at least 0 and below 1
+unfoldable pub shape_refusal : M2N → Checked
+shape_refusal m = first_refusal (shape_rules m)
+
+-- and then for the weight: not at least 0 and below 1
+abbrev pub walk_rules : M2N → Float → List Rule
+walk_rules m p = shape_rules m ++ (not (is_weight p) ⇒ BadWeight ∷ [])
+
 unfoldable pub walk_refusal : M2N → Float → Checked
-walk_refusal m p = cond (not (eqb m.variant 1 || eqb m.variant 2)) (Err UnknownVariant) (later_refusal m.len (needed_by m.variant) p)
+walk_refusal m p = first_refusal (walk_rules m p)
 
 -- the state after a walk, and how it went
 abbrev pub Walked : Type 0

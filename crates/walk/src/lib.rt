@@ -4,7 +4,7 @@
 
 ghost use Rattle.std.specs.Prelude.{◌≡◌, true, ◌≤◌, ◌<◌, min, Ok};
 ghost use Rattle.moments.specs.Lists.{five_of, listed};
-ghost use Rattle.walk.specs.Parts.{Turned, ended_after, fit_after, fit_part, walk_variant, walked_to, with_fit_of};
+ghost use Rattle.walk.specs.Parts.{Turned, ended_after, fit_after, fit_part, shape_variant, walk_variant, walked_to, with_fit_of};
 ghost use Rattle.walk.specs.Reasons.{number_of};
 ghost use Rattle.walk.specs.Squares.{squares_summed};
 ghost use Rattle.walk.specs.Trail.{step_for};
@@ -226,12 +226,22 @@ pub fn is_weight(p_1: f64) -> bool
     0.0 <= p_1 && p_1 < 1.0
 }
 
-// The state's variant, or document 01's refusals of a walk, in its order.
-fn check(m: M2N, p_1: f64) -> Result<Variant, Refusal>
-    ensures { result ≡ walk_variant m p_1 }
+// The state's variant, or what document 01's entry "Walk" turns away of the state.
+#[tactic(auto, unfolding(crate::specs::Walk::shape_refusal))]
+fn check_shape(m: M2N) -> Result<Variant, Refusal>
+    ensures { result ≡ shape_variant m }
 {
     let variant = Variant::try_from(m.variant)?;
     moments::check_len(m.len, variant.needed())?;
+    Ok(variant)
+}
+
+// And then of the weight.
+#[tactic(auto, unfolding(crate::specs::Walk::shape_refusal, crate::specs::Walk::walk_refusal))]
+fn check(m: M2N, p_1: f64) -> Result<Variant, Refusal>
+    ensures { result ≡ walk_variant m p_1 }
+{
+    let variant = check_shape(m)?;
     if !is_weight(p_1) {
         return Err(Refusal::BadWeight);
     }
