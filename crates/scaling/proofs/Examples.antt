@@ -105,7 +105,7 @@ unfolding fair_walk walk_refusal step_for step_4 met_by abs_of sized sum_is_zero
 fair_four = tt
 
 pub on_four : Examples 1 (pos 200)
-unfolding fits fair_walk walk_of step_for step_4 met_by abs_of sized sum_is_zero difference_is_zero product_is_zero quotient_is_zero power_of root round of_int add mul sub div neg eq lt le
+unfolding fits fair_walk walk_of step_for step_4 met_by abs_of sized sum_is_zero difference_is_zero product_is_zero quotient_is_zero power_of root round of_int add mul sub div neg eq lt le float_is_finite
 on_four = record {
   ends = refl;
   doubled = asked (pos 1) 1 M (as_f64 2) p tt fair_four tt;
