@@ -12,11 +12,12 @@ use lib.Ieee.{Float}
 use mir.Syntax.{w64}
 use mir.Val.{SFits}
 use borrow.Author.Tests.{ltb-true, ltb-false, leb-true, leb-false}
+use Rattle.float.specs.Leaves.{as_f64}
 use Rattle.float.specs.Keys.{key_of}
 use Rattle.float.proofs.Keys.{key_le, key_lt}
 use Rattle.bet_sizing.specs.declared.counts.Side.{Side}
 use Rattle.bet_sizing.specs.Counting.{Collected, Counted, Netted, begun, ended, net}
-use Rattle.bet_sizing.specs.Counts.{concurrent, indicator, on_side, whole}
+use Rattle.bet_sizing.specs.Counts.{concurrent, indicator, on_side}
 use Rattle.std.specs.List.Sorted.{IsPermutation}
 use Rattle.std.proofs.lemmas.List.Sorted.{sum_by-IsPermutation}
 use Rattle.bet_sizing.specs.Sorting.{rank}
@@ -66,4 +67,4 @@ netted {side} {ss} {es} {ds} {old} {s = s} {e = e} {s' = s'} {e' = e'} {m = m} c
     let at : (k : ℕ) → k < length ss → net s' e' (get_or ss k (pos 0)) ≡ concurrent side (get_or ss k (pos 0)) ss es ds = λ k l.
     let x = key_of (get_or ss k (pos 0)) in
     omega (arith, same x (take m s) s' p, same x (take m e) e' q, c.starts x, c.ends x, law side (get_or ss k (pos 0)) ss es ds (c.fit_starts k l) c.fit_starts c.fit_ends) in
-    record { list = w.list ∙ ap (λ (z : List Float). z ++ drop (length ss) old) (same_map (λ t. whole (net s' e' t)) (λ t. whole (concurrent side t ss es ds)) ss (λ k l. ap whole (at k l))) }
+    record { list = w.list ∙ ap (λ (z : List Float). z ++ drop (length ss) old) (same_map (λ t. as_f64 (net s' e' t)) (λ t. as_f64 (concurrent side t ss es ds)) ss (λ k l. ap as_f64 (at k l))) }

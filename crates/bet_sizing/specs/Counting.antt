@@ -4,9 +4,10 @@ use Rattle.std.specs.Int.Signed.{lt_z}
 use Rattle.std.specs.List.Sorted.{IsNonDecreasing}
 use Rattle.std.specs.Int.{w64}
 use Rattle.std.proofs.Common.{SFits}
+use Rattle.float.specs.Leaves.{as_f64}
 use Rattle.float.specs.Keys.{key_of}
 use Rattle.bet_sizing.specs.declared.counts.Side.{Side}
-use Rattle.bet_sizing.specs.Counts.{indicator, on_side, whole, concurrent_counts}
+use Rattle.bet_sizing.specs.Counts.{indicator, on_side, concurrent_counts}
 use Rattle.bet_sizing.specs.Sorting.{rank}
 
 -- of the spans of a side that end after they start, all others being never live, how many have a start, or an end, up to the key x
@@ -44,7 +45,7 @@ pub record Nettable (ss : List ℤ) (s e : List ℕ) (out : List Float) : Type 0
 
 -- the net counts at each start, then what was there
 pub record Netted (ss : List ℤ) (s e : List ℕ) (old new : List Float) : Type 0 where
-  pub list : new ≡ map (λ t. whole (net s e t)) ss ++ drop (length ss) old
+  pub list : new ≡ map (λ t. as_f64 (net s e t)) ss ++ drop (length ss) old
 
 -- the counts of a side at each start, then what was there
 pub record Counted (side : Side) (ss es : List ℤ) (ds old new : List Float) : Type 0 where

@@ -1,8 +1,8 @@
 -- Spans in time, each with a side: how many of a side are live at an instant (chapter 10 of Advances in Financial Machine Learning; the Rust's get_concurrent_sides). Definitions only.
-use Rattle.std.specs.Prelude.{ℕ, ◌+◌, Bool, not, ◌&&◌, cond, List, [], ◌∷◌, map, ℤ, pos, Float}
+use Rattle.std.specs.Prelude.{ℕ, ◌+◌, Bool, not, ◌&&◌, cond, List, [], ◌∷◌, map, ℤ, Float}
 use Rattle.std.specs.Int.Signed.{le_z, lt_z}
-use Rattle.std.specs.Float.{binary64}
-use Rattle.std.specs.Float.Ieee.{of_int, lt}
+use Rattle.std.specs.Float.Ieee.{lt}
+use Rattle.float.specs.Leaves.{as_f64}
 use Rattle.float.specs.Constants.{nought}
 use Rattle.bet_sizing.specs.declared.counts.Side.{Side}
 use Rattle.bet_sizing.specs.declared.counts.Side.TheVariants.{Long, Short}
@@ -27,10 +27,6 @@ concurrent side t (s ∷ ss) [] ds = 0
 concurrent side t (s ∷ ss) (e ∷ es) [] = 0
 concurrent side t (s ∷ ss) (e ∷ es) (d ∷ ds) = indicator (live t s e && on_side side d) + concurrent side t ss es ds
 
--- a whole number as a float
-unfoldable pub whole : ℕ → Float
-whole n = of_int binary64 (pos n)
-
 -- for each span, how many of a side are live at its start
 abbrev pub concurrent_counts : Side → List ℤ → List ℤ → List Float → List Float
-concurrent_counts side ss es ds = map (λ t. whole (concurrent side t ss es ds)) ss
+concurrent_counts side ss es ds = map (λ t. as_f64 (concurrent side t ss es ds)) ss

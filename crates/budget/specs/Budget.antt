@@ -3,9 +3,9 @@ use Rattle.std.specs.Prelude.{ℕ, ◌≡◌, cond, Result, List, [], ◌∷◌,
 use Rattle.std.specs.Float.{binary64}
 use Rattle.std.specs.Float.Ieee.{div, lt, sub}
 use Rattle.float.specs.Constants.{nought}
-use Rattle.float.specs.Leaves.{larger_of}
+use Rattle.float.specs.Leaves.{as_f64, larger_of}
 use Rattle.bet_sizing.specs.declared.counts.Side.TheVariants.{Long, Short}
-use Rattle.bet_sizing.specs.Counts.{concurrent, concurrent_counts, whole}
+use Rattle.bet_sizing.specs.Counts.{concurrent, concurrent_counts}
 use Rattle.bet_sizing.specs.Refusals.{list_after, spans_rules}
 use Rattle.refusal.specs.Numbers.{Checked, unless_refused}
 use Rattle.refusal.specs.Rules.{first_refusal}
@@ -28,8 +28,8 @@ share c most = cond (lt nought most) (div binary64 c most) nought
 abbrev pub budget_size : List ℤ → List ℤ → List Float → ℤ → Float
 budget_size ss es ds t =
     sub binary64
-    (share (whole (concurrent Long t ss es ds)) (largest (concurrent_counts Long ss es ds)))
-    (share (whole (concurrent Short t ss es ds)) (largest (concurrent_counts Short ss es ds)))
+    (share (as_f64 (concurrent Long t ss es ds)) (largest (concurrent_counts Long ss es ds)))
+    (share (as_f64 (concurrent Short t ss es ds)) (largest (concurrent_counts Short ss es ds)))
 
 -- for each span, the size at its start
 abbrev pub budget_sizes : List ℤ → List ℤ → List Float → List Float

@@ -3,9 +3,9 @@
 #![tactic(auto)]
 
 ghost use Rattle.std.specs.Prelude.{◌≡◌};
-ghost use Rattle.std.specs.Float.{binary64};
+ghost use Rattle.std.specs.Float.{binary64, float_is_finite};
 ghost use Rattle.std.specs.Float.Ieee.{of_int, to_signed, to_unsigned};
-ghost use Rattle.float.specs.Leaves.{abs_of, finite, larger_of};
+ghost use Rattle.float.specs.Leaves.{abs_of, larger_of};
 ghost use Rattle.float.specs.Power.{power};
 ghost use Rattle.float.specs.Root.{root};
 
@@ -28,7 +28,7 @@ pub extern "C" fn woddirme_abs(x: f64) -> f64
 // Neither infinite nor NaN.
 #[unsafe(no_mangle)]
 pub extern "C" fn woddirme_is_finite(x: f64) -> bool
-    ensures { result ≡ finite x }
+    ensures { result ≡ float_is_finite x }
 {
     number::is_finite(x)
 }

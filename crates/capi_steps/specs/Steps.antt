@@ -4,18 +4,9 @@ use Rattle.refusal.specs.Numbers.{status_of, unless_refused}
 use Rattle.refusal.specs.Rules.{Rule, ◌⇒◌, first_refusal}
 use Rattle.refusal.specs.declared.Refusal.{Refusal}
 use Rattle.refusal.specs.declared.Refusal.TheVariants.{TooLittleRoom}
+use Rattle.step.specs.StepNumbers.{admitted_of, numbers_of}
 use Rattle.step.specs.declared.Step.{Step}
-use Rattle.step.specs.declared.Step.TheVariants.{Admitted, Inadmissible}
-use Rattle.capi_states.specs.States.{with_params}
-
--- how many steps are admitted, and where the five numbers of one go
-abbrev pub count_if : Step → ℕ
-count_if Inadmissible = 0
-count_if (Admitted p) = 1
-
-abbrev pub with_step : List Float → Step → List Float
-with_step before Inadmissible = before
-with_step before (Admitted p) = with_params before p
+use Rattle.capi_states.specs.States.{with_front}
 
 -- five places are needed, whether the step is admitted or not; tested after what the step turns away
 abbrev pub places_rules : List Float → List Rule
@@ -27,11 +18,11 @@ roomed (Err e) numbers = Err e
 
 -- what stands in the lent places after: a refusal leaves them as they were
 abbrev pub admitted_after : Result Step Refusal → ℕ → ℕ
-admitted_after (Ok s) before = count_if s
+admitted_after (Ok s) before = admitted_of s
 admitted_after (Err e) before = before
 
 abbrev pub numbers_after : Result Step Refusal → List Float → List Float
-numbers_after (Ok s) before = with_step before s
+numbers_after (Ok s) before = with_front before (numbers_of s)
 numbers_after (Err e) before = before
 
 abbrev pub StepLeaves : Result Step Refusal → ℕ → List Float → ℕ → ℕ → List Float → Type 0

@@ -6,7 +6,9 @@
 ghost use Rattle.std.specs.Prelude.{◌≡◌, ◌≤◌, length};
 ghost use Rattle.iterate.specs.Refusals.{iter4, iter5};
 ghost use Rattle.refusal.specs.Numbers.{status_of};
-ghost use Rattle.capi_steps.specs.Steps.{StepLeaves, count_if, roomed, with_step};
+ghost use Rattle.step.specs.StepNumbers.{admitted_of, numbers_of};
+ghost use Rattle.capi_states.specs.States.{with_front};
+ghost use Rattle.capi_steps.specs.Steps.{StepLeaves, roomed};
 ghost use Rattle.capi_steps.specs.Walks.{WalkLeaves, outcome_of, walked};
 
 use refusal::Refusal;
@@ -16,7 +18,7 @@ use walk::Walked;
 // How many steps are admitted, 1 or 0; where none, the lent numbers stay as they were.
 fn leave_step(s: Step, numbers: &mut [f64]) -> usize
     requires { 5 ≤ length numbers.old }
-    ensures { (result ≡ count_if s) × (numbers.new ≡ with_step numbers.old s) }
+    ensures { (result ≡ admitted_of s) × (numbers.new ≡ with_front numbers.old (numbers_of s)) }
 {
     let Step::Admitted(p) = s else {
         return 0;

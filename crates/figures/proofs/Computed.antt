@@ -1,7 +1,7 @@
 -- The starred figures hold, and so does what is said of too many lots: the left side of each row is computed, and is the right side.
 use mathlib.Core.Path.{refl}
 use lib.Ieee.{round, of_int, add, sub, mul, div, neg, eq, lt, le, to_signed}
-use Rattle.std.specs.Float.{float_is_infinite}
+use Rattle.std.specs.Float.{float_is_infinite, float_is_finite}
 use Rattle.float.specs.Leaves.{abs_of}
 use Rattle.float.specs.Power.{power_of}
 use Rattle.float.specs.Root.{root}
@@ -19,7 +19,7 @@ abbrev ◌and◌ : {A B : Type 0} → A → B → A × B
 a and b = (a, b)
 
 pub figures : Figures
-unfolding Figures get_moments centred_moment raw_moment raw_out choose iter4 iter5 get_w_sigmoid inv_price_sigmoid limit_price_sigmoid to_signed float_is_infinite abs_of power_of root round of_int add sub mul div neg eq lt le
+unfolding Figures get_moments centred_moment raw_moment raw_out choose iter4 iter5 get_w_sigmoid inv_price_sigmoid limit_price_sigmoid to_signed float_is_infinite abs_of power_of root round of_int add sub mul div neg eq lt le float_is_finite
 figures =
     -- the moments of mixtures, centred ones, raw ones
     refl and refl

@@ -2,12 +2,12 @@
 use Rattle.std.specs.Prelude.{◌≡◌, refl, List, [], ◌∷◌, false, ℕ, Float}
 use Rattle.std.specs.Float.{binary64}
 use Rattle.std.specs.Float.Ieee.{round, of_int, of_bits, to_unsigned, add, mul, sub, div, neg, eq, lt, le}
-use Rattle.float.specs.Leaves.{abs_of, larger_of}
+use Rattle.float.specs.Leaves.{abs_of, larger_of, as_f64}
 use Rattle.float.specs.Power.{power_of}
 use Rattle.float.specs.Root.{root}
 use Rattle.float.specs.Upper.{upper_of}
 use Rattle.moments.specs.Comb.{choose}
-use Rattle.moments.specs.Figures.{whole, half}
+use Rattle.moments.specs.Figures.{half}
 use Rattle.moments.specs.Mixture.{get_moments}
 use Rattle.moments.specs.Orders.{centred_sum}
 use Rattle.step.specs.Steps.{step_4, step_5}
@@ -26,7 +26,7 @@ use Rattle.figures.specs.Figures.{five, M}
 
 -- on M, with factor 1
 abbrev on_M : ℕ → Float → M2N
-on_M variant epsilon = record (example_state (five M)) { variant = variant; epsilon = epsilon; factor = whole 1 }
+on_M variant epsilon = record (example_state (five M)) { variant = variant; epsilon = epsilon; factor = as_f64 1 }
 
 -- 1 / n
 abbrev part : ℕ → Float
@@ -41,7 +41,7 @@ abbrev refusal_at : ℕ → ℕ
 refusal_at n = status_of (grid_refusal (on_M 1 (part n)) (part n) 1 [])
 
 pub refusals_at : (refusal_at 1 ∷ refusal_at 2 ∷ refusal_at 131072 ∷ refusal_at 262144 ∷ []) ≡ 0 ∷ 6 ∷ 6 ∷ 5 ∷ []
-unfolding grid_refusal rows_of all_weights upper_of larger_of sub div eq lt round to_unsigned
+unfolding grid_refusal rows_of all_weights upper_of larger_of sub div eq lt round to_unsigned float_is_finite
 refusals_at = refl
 
 -- the row of a search with epsilon 1/4 and the weight 1/2 three times
@@ -56,5 +56,5 @@ unfolding fit_of flat_of begun sum_of_squares deviation_of mean_of rows_of upper
 row_on_four = refl
 
 pub row_on_five : row_on 2 ≡ bits 0x3fb088af74be05b8 ∷ bits 0x3ffe07add969aaeb ∷ bits 0x3ff02ba941985e02 ∷ bits 0x40007366a01a2aec ∷ bits 0x3fde6380afc52e9c ∷ bits 0x405051356ab25c4e ∷ []
-unfolding fit_of flat_of begun sum_of_squares centred_state moved_error deviation_of mean_of rows_of upper_of larger_of centred_sum choose walk_of error_of step_for step_4 step_5 get_moments abs_of power_of root round of_int of_bits to_unsigned add mul sub div neg eq lt le
+unfolding fit_of flat_of begun sum_of_squares centred_state moved_error deviation_of mean_of rows_of upper_of larger_of centred_sum choose walk_of error_of step_for step_4 step_5 get_moments abs_of power_of root round of_int of_bits to_unsigned add mul sub div neg eq lt le float_is_finite
 row_on_five = refl

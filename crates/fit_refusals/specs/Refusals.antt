@@ -1,9 +1,8 @@
 -- What the grid and several runs turn away: document 01's entries, in its order of testing. Definitions only.
 use Rattle.std.specs.Prelude.{List, [], ◌∷◌, ◌++◌, Bool, true, ◌&&◌, not, cond, ℕ, zero, suc, ◌*◌, ◌-◌, ltb, eqb, length, get_or, Float, Ok}
-use Rattle.std.specs.Float.{nan}
+use Rattle.std.specs.Float.{nan, float_is_finite}
 use Rattle.std.specs.Float.Ieee.{lt}
 use Rattle.float.specs.Constants.{nought}
-use Rattle.float.specs.Leaves.{finite}
 use Rattle.float.specs.Upper.{upper_of}
 use Rattle.refusal.specs.Numbers.{Checked}
 use Rattle.refusal.specs.Rules.{Rule, ◌⇒◌, first_refusal}
@@ -24,7 +23,7 @@ all_weights weights (suc i) = all_weights weights i && is_weight (get_or weights
 
 -- finite and above 0
 abbrev pub is_spacing : Float → Bool
-is_spacing epsilon = finite epsilon && lt nought epsilon
+is_spacing epsilon = float_is_finite epsilon && lt nought epsilon
 
 -- its entry "Grid": epsilon is the one in force, and the weights are counted for so many searches
 abbrev pub grid_rules : M2N → Float → ℕ → List Float → List Rule

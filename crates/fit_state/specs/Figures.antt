@@ -3,9 +3,10 @@ use Rattle.std.specs.Prelude.{◌++◌, false, replicate}
 use Rattle.std.specs.Float.{nan, binary64}
 use Rattle.std.specs.Float.Ieee.{round}
 use Rattle.float.specs.Constants.{nought}
-use Rattle.moments.specs.Figures.{whole, params}
+use Rattle.moments.specs.Figures.{params}
 use Rattle.moments.specs.Lists.{listed}
 use Rattle.moments.specs.declared.Five.{Five}
+use Rattle.float.specs.Leaves.{as_f64}
 use Rattle.fit_state.specs.declared.M2N.{M2N}
 
 -- five target moments, zeros behind them, and nothing fitted yet
@@ -14,7 +15,7 @@ example_state m = record {
   moments = listed m ++ replicate 11 nought;
   len = 5;
   epsilon = round binary64 false 1 4;
-  factor = whole 5;
+  factor = as_f64 5;
   n_runs = 1;
   variant = 1;
   max_iter = 100;

@@ -11,8 +11,8 @@ use lib.Ieee.Exact.{HasValue}
 use lib.Ieee.Fits.{down_pos}
 use lib.Ieee.Positive.{num, den, positive, above, above_of_le, first_pos, cross→le, mul_mono}
 use borrow.Author.Tests.{ltb-true}
+use Rattle.std.specs.Float.{float_is_finite}
 use Rattle.float.specs.Constants.{nought}
-use Rattle.float.specs.Leaves.{finite}
 use Rattle.float.specs.Root.{root}
 use Rattle.float.proofs.Monotone.{Signed, round_signed, le_inf, not_above, times_inf, same_between}
 use Rattle.float.proofs.Product.{mul_one_is}
@@ -87,7 +87,8 @@ module _ (f : Format) (m : ℕ) (e : ℤ) (c hi : Float) (g : T (fits f hi)) (H 
   at y = sub f (fin false m e) (mul f c y)
 
   bracketed : (k : ℕ) (d : ℤ) (q : Float) → T (above q) → T (fits f (fin false (suc k) d)) → T (fits f q) → lt (mul f (fin false (suc k) d) (fin false (suc k) d)) q ≡ true → lt q (mul f hi hi) ≡ true
-      → lt nought (at (fin false (suc k) d)) ≡ true → T (eq (at (fin false (suc k) d)) (at hi)) → (finite q ≡ true) × (at (root f q) ≡ at (fin false (suc k) d))
+      → lt nought (at (fin false (suc k) d)) ≡ true → T (eq (at (fin false (suc k) d)) (at hi)) → (float_is_finite q ≡ true) × (at (root f q) ≡ at (fin false (suc k) d))
+  unfolding float_is_finite
   bracketed k d nan a p q h i j l = absurd a
   bracketed k d (inf true) a p q h i j l = absurd a
   bracketed k d (inf false) a p q h i j l = absurd (highest (mul f hi hi) i)
@@ -104,10 +105,10 @@ module _ (f : Format) (m : ℕ) (e : ℤ) (c hi : Float) (g : T (fits f hi)) (H 
       (refl, same_between f m e lo r hi L R H under (below_end f n b hi q g H A i) c j l)
 
   pub bracket : (q lo : Float) → T (fits f lo) → T (fits f q) → lt nought lo ≡ true → lt (mul f lo lo) q ≡ true → lt q (mul f hi hi) ≡ true
-      → lt nought (at lo) ≡ true → T (eq (at lo) (at hi)) → (finite q ≡ true) × (at (root f q) ≡ at lo)
+      → lt nought (at lo) ≡ true → T (eq (at lo) (at hi)) → (float_is_finite q ≡ true) × (at (root f q) ≡ at lo)
   bracket q lo p g' z h i j l = go lo p (above_zero lo z) h j l
     where
-      go : (lo : Float) → T (fits f lo) → T (above lo) → lt (mul f lo lo) q ≡ true → lt nought (at lo) ≡ true → T (eq (at lo) (at hi)) → (finite q ≡ true) × (at (root f q) ≡ at lo)
+      go : (lo : Float) → T (fits f lo) → T (above lo) → lt (mul f lo lo) q ≡ true → lt nought (at lo) ≡ true → T (eq (at lo) (at hi)) → (float_is_finite q ≡ true) × (at (root f q) ≡ at lo)
       go nan p z h j l = absurd z
       go (inf true) p z h j l = absurd z
       go (inf false) p z h j l = absurd (endless f q h)

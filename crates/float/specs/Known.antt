@@ -1,8 +1,8 @@
 -- Known values of the definitions, computed: each row is an argument and its answer, floats by their bits.
 use Rattle.std.specs.Prelude.{◌≡◌, refl, Bool, true, false, List, [], ◌∷◌, ℕ, ℤ, pos, negsuc, Float}
-use Rattle.std.specs.Float.{binary64}
+use Rattle.std.specs.Float.{binary64, float_is_finite}
 use Rattle.std.specs.Float.Ieee.{of_bits, to_bits, of_int, to_signed, to_unsigned, lt, mul}
-use Rattle.float.specs.Leaves.{abs_of, finite, larger_of}
+use Rattle.float.specs.Leaves.{abs_of, larger_of}
 use Rattle.float.specs.Power.{power_of, power}
 use Rattle.float.specs.Root.{root}
 use Rattle.tables.specs.Tables.{Row, ◌⇒◌, answers, expected}
@@ -117,8 +117,8 @@ finites =
     ∷ (0x7ff8000000000000 ⇒ false)  -- NaN
     ∷ []
 
-known_finites : answers (λ b. finite (float b)) finites ≡ expected finites
-unfolding answers expected of_bits
+known_finites : answers (λ b. float_is_finite (float b)) finites ≡ expected finites
+unfolding answers expected of_bits float_is_finite
 known_finites = refl
 
 -- ---- larger, of a number and 1

@@ -11,7 +11,7 @@ use lib.Pow.{pow-add, pow_pos}
 use lib.Ieee.{Float, nan, inf, fin, binary64, up, down, unlike, round, sum, add, sub, mul, div, neg, eq, fits}
 use lib.Ieee.Fits.{up_pos, down_pos, and_l, and_r}
 use lib.Ieee.Positive.{first_pos}
-use Rattle.float.specs.Leaves.{finite}
+use Rattle.std.specs.Float.{float_is_finite}
 use Rattle.float.specs.Root.{root}
 use Rattle.float.specs.Scale.{moved, scale}
 use Rattle.float.proofs.RootScale.{root_scale_pos}
@@ -43,16 +43,17 @@ fraction s a c b d t C D e z w za wb g h = elim (eq-zero-or-pos a) [
 ]
 
 -- ---- a result that is zero before it is rounded, or in the range, is finite
-none_finite : (s : Bool) (a c : ℕ) → 0 < c → a ≡ 0 → T (finite (round binary64 s a c))
+none_finite : (s : Bool) (a c : ℕ) → 0 < c → a ≡ 0 → T (float_is_finite (round binary64 s a c))
+unfolding float_is_finite
 none_finite s a c C e = rw (e, round_zero binary64 s c C) tt
 
-fair_finite : (z : Bool) (r : Float) → (T z → T (finite r)) → T (z || sized r) → T (finite r)
+fair_finite : (z : Bool) (r : Float) → (T z → T (float_is_finite r)) → T (z || sized r) → T (float_is_finite r)
 fair_finite true r f g = f tt
 fair_finite false r f g = sized_finite r g
 
 -- ---- the product
 mul_flag : (s : Bool) (m : ℕ) (e : ℤ) (t : Bool) (n : ℕ) (d : ℤ) → T (product_is_zero (fin s m e) (fin t n d)) → m * up e * (n * up d) ≡ 0
-unfolding product_is_zero
+unfolding product_is_zero float_is_finite
 mul_flag s m e t n d h = go (eqb m 0) (eqb n 0) (eqb→eq m 0) (eqb→eq n 0) h
   where
     go : (b c : Bool) → (T b → m ≡ 0) → (T c → n ≡ 0) → T (b || c) → m * up e * (n * up d) ≡ 0
@@ -64,10 +65,10 @@ products : (p q u v p' q' u' v' a b : ℕ) → p' * u ≡ p * 2 ^ a * u' → q' 
 products p q u v p' q' u' v' a b e f =
     rw (mul-mul-mul_comm p' q' u v, e, f) (simp (mul_assoc, mul_comm, mul_left_comm, pow-add))
 
-pub mul_scale : (x y : Float) (a b : ℕ) → T (finite x) → T (finite y) → T (product_is_zero x y || sized (mul binary64 x y))
+pub mul_scale : (x y : Float) (a b : ℕ) → T (float_is_finite x) → T (float_is_finite y) → T (product_is_zero x y || sized (mul binary64 x y))
     → T (product_is_zero (scale (pos a) x) (scale (pos b) y) || sized (mul binary64 (scale (pos a) x) (scale (pos b) y)))
     → mul binary64 (scale (pos a) x) (scale (pos b) y) ≡ scale (pos (a + b)) (mul binary64 x y)
-unfolding mul
+unfolding mul float_is_finite
 mul_scale nan y a b p q g h = absurd p
 mul_scale (inf s) y a b p q g h = absurd p
 mul_scale (fin s m e) nan a b p q g h = absurd q
@@ -79,15 +80,15 @@ mul_scale (fin s m e) (fin t n d) a b p q g h =
     (product_is_zero (fin s m e) (fin t n d)) (product_is_zero (fin s m (moved m e (pos a))) (fin t n (moved n d (pos b))))
     (mul_flag s m e t n d) (mul_flag s m (moved m e (pos a)) t n (moved n d (pos b))) g h
 
-mul_none : (x y : Float) → T (product_is_zero x y) → T (finite (mul binary64 x y))
-unfolding mul product_is_zero
+mul_none : (x y : Float) → T (product_is_zero x y) → T (float_is_finite (mul binary64 x y))
+unfolding mul product_is_zero float_is_finite
 mul_none nan y h = h
 mul_none (inf s) y h = absurd h
 mul_none (fin s m e) nan h = h
 mul_none (fin s m e) (inf t) h = absurd h
 mul_none (fin s m e) (fin t n d) h = none_finite (unlike s t) (m * up e * (n * up d)) (down e * down d) (mul-pos (down_pos e) (down_pos d)) (mul_flag s m e t n d h)
 
-pub mul_finite : (x y : Float) → T (product_is_zero x y || sized (mul binary64 x y)) → T (finite (mul binary64 x y))
+pub mul_finite : (x y : Float) → T (product_is_zero x y || sized (mul binary64 x y)) → T (float_is_finite (mul binary64 x y))
 mul_finite x y = fair_finite (product_is_zero x y) (mul binary64 x y) (mul_none x y)
 
 -- ---- the quotient
@@ -105,10 +106,10 @@ some_pos (suc n) h = zero-lt-suc n
 gone : {m : ℕ} (u v : ℕ) → m ≡ 0 → m * u * v ≡ 0
 gone u v e = rw e (simp zero-mul)
 
-pub div_scale : (x y : Float) (t b : ℕ) → T (finite x) → T (finite y) → T (quotient_is_zero x y || sized (div binary64 x y))
+pub div_scale : (x y : Float) (t b : ℕ) → T (float_is_finite x) → T (float_is_finite y) → T (quotient_is_zero x y || sized (div binary64 x y))
     → T (quotient_is_zero (scale (pos (t + b)) x) (scale (pos b) y) || sized (div binary64 (scale (pos (t + b)) x) (scale (pos b) y)))
     → div binary64 (scale (pos (t + b)) x) (scale (pos b) y) ≡ scale (pos t) (div binary64 x y)
-unfolding div quotient_is_zero sized
+unfolding div quotient_is_zero sized float_is_finite
 div_scale nan y t b p q g h = absurd p
 div_scale (inf s) y t b p q g h = absurd p
 div_scale (fin s m e) nan t b p q g h = absurd q
@@ -138,19 +139,19 @@ div_scale (fin s m e) (fin r n d) t b p q g h = go (eqb n 0) (eqb m 0) (some_pos
         (quotients (m * up e) (n * up d) (down e) (down d) (m * up e') (n * up d') (down e') (down d') t b (scale_cross (fin s m e) (t + b)) (scale_cross (fin r n d) b))
         (w && true && true) (w && true && true) (λ u. gone (up e) (down d) (M (and_l w true (and_l (w && true) true u)))) (λ u. gone (up e') (down d') (M (and_l w true (and_l (w && true) true u)))) g h
 
-div_none : (x y : Float) → T (quotient_is_zero x y) → T (finite (div binary64 x y))
-unfolding div quotient_is_zero
+div_none : (x y : Float) → T (quotient_is_zero x y) → T (float_is_finite (div binary64 x y))
+unfolding div quotient_is_zero float_is_finite
 div_none nan y h = h
 div_none (inf s) y h = absurd h
 div_none (fin s m e) nan h = absurd (and_r (eqb m 0) false (and_l (eqb m 0 && false) true h))
 div_none (fin s m e) (inf r) h = absurd (and_r (eqb m 0) false (and_l (eqb m 0 && false) true h))
 div_none (fin s m e) (fin r n d) h = go (eqb n 0) (eqb m 0) (some_pos n) (eqb→eq m 0) h
   where
-    go : (z w : Bool) → (T (not z) → 0 < n) → (T w → m ≡ 0) → T (w && true && not z) → T (finite (cond z (cond w nan (inf (unlike s r))) (round binary64 (unlike s r) (m * up e * down d) (n * up d * down e))))
+    go : (z w : Bool) → (T (not z) → 0 < n) → (T w → m ≡ 0) → T (w && true && not z) → T (float_is_finite (cond z (cond w nan (inf (unlike s r))) (round binary64 (unlike s r) (m * up e * down d) (n * up d * down e))))
     go true w P M h = absurd (and_r (w && true) false h)
     go false w P M h = none_finite (unlike s r) (m * up e * down d) (n * up d * down e) (mul-pos (mul-pos (P tt) (up_pos d)) (down_pos e)) (gone (up e) (down d) (M (and_l w true (and_l (w && true) true h))))
 
-pub div_finite : (x y : Float) → T (quotient_is_zero x y || sized (div binary64 x y)) → T (finite (div binary64 x y))
+pub div_finite : (x y : Float) → T (quotient_is_zero x y || sized (div binary64 x y)) → T (float_is_finite (div binary64 x y))
 div_finite x y = fair_finite (quotient_is_zero x y) (div binary64 x y) (div_none x y)
 
 -- ---- the sum
@@ -213,10 +214,10 @@ sum_flag : (s t : Bool) (a b : ℕ) → T (eqb a b && (beq s (not t) || eqb a 0)
 sum_flag s t a b h =
     (eqb→eq a b (and_l (eqb a b) (beq s (not t) || eqb a 0) h), λ g. eqb→eq a 0 (beside s t (eqb a 0) (and_r (eqb a b) (beq s (not t) || eqb a 0) h) g))
 
-pub add_scale : (x y : Float) (a : ℕ) → T (finite x) → T (finite y) → T (sum_is_zero x y || sized (add binary64 x y))
+pub add_scale : (x y : Float) (a : ℕ) → T (float_is_finite x) → T (float_is_finite y) → T (sum_is_zero x y || sized (add binary64 x y))
     → T (sum_is_zero (scale (pos a) x) (scale (pos a) y) || sized (add binary64 (scale (pos a) x) (scale (pos a) y)))
     → add binary64 (scale (pos a) x) (scale (pos a) y) ≡ scale (pos a) (add binary64 x y)
-unfolding add sum_is_zero eq neg
+unfolding add sum_is_zero eq neg float_is_finite
 add_scale nan y a p q g h = absurd p
 add_scale (inf s) y a p q g h = absurd p
 add_scale (fin s m e) nan a p q g h = absurd q
@@ -233,24 +234,24 @@ add_scale (fin s m e) (fin t n d) a p q g h =
     (sum_is_zero (fin s m e) (fin t n d)) (sum_is_zero (fin s m e') (fin t n d'))
     (sum_flag s t (m * up e * down d) (n * up d * down e)) (sum_flag s t (m * up e' * down d') (n * up d' * down e')) g h
 
-sum_none : (s t : Bool) (a b c : ℕ) → 0 < c → (a ≡ b) × (T (beq s t) → a ≡ 0) → T (finite (sum binary64 s a t b c))
+sum_none : (s t : Bool) (a b c : ℕ) → 0 < c → (a ≡ b) × (T (beq s t) → a ≡ 0) → T (float_is_finite (sum binary64 s a t b c))
 unfolding sum
 sum_none s t a b c C h = go (beq s t) (ltb a b) (ltb b a) h.1
   where
-    go : (q l r : Bool) → (T q → a ≡ 0) → T (finite (summed s t q l r a b c))
+    go : (q l r : Bool) → (T q → a ≡ 0) → T (float_is_finite (summed s t q l r a b c))
     go true l r z = none_finite s (a + b) c C (none_both a b h.0 (z tt))
     go false true r z = none_finite t (b - a) c C (none_left b a (sym h.0))
     go false false r z = none_finite (s && r) (a - b) c C (none_left a b h.0)
 
-add_none : (x y : Float) → T (sum_is_zero x y) → T (finite (add binary64 x y))
-unfolding add sum_is_zero eq neg
+add_none : (x y : Float) → T (sum_is_zero x y) → T (float_is_finite (add binary64 x y))
+unfolding add sum_is_zero eq neg float_is_finite
 add_none nan y h = h
 add_none (inf s) y h = absurd h
 add_none (fin s m e) nan h = h
 add_none (fin s m e) (inf t) h = h
 add_none (fin s m e) (fin t n d) h = sum_none s t (m * up e * down d) (n * up d * down e) (down e * down d) (mul-pos (down_pos e) (down_pos d)) (sum_flag s t (m * up e * down d) (n * up d * down e) h)
 
-pub add_finite : (x y : Float) → T (sum_is_zero x y || sized (add binary64 x y)) → T (finite (add binary64 x y))
+pub add_finite : (x y : Float) → T (sum_is_zero x y || sized (add binary64 x y)) → T (float_is_finite (add binary64 x y))
 add_finite x y = fair_finite (sum_is_zero x y) (add binary64 x y) (add_none x y)
 
 -- ---- the difference
@@ -260,8 +261,8 @@ neg_scale nan a = refl
 neg_scale (inf s) a = refl
 neg_scale (fin s m e) a = refl
 
-neg_finite : (y : Float) → T (finite y) → T (finite (neg y))
-unfolding neg
+neg_finite : (y : Float) → T (float_is_finite y) → T (float_is_finite (neg y))
+unfolding neg float_is_finite
 neg_finite nan p = p
 neg_finite (inf s) p = p
 neg_finite (fin s m e) p = p
@@ -283,7 +284,7 @@ sub_is x y = refl
 fair_sub : (x y : Float) → T (difference_is_zero x y || sized (sub binary64 x y)) → T (sum_is_zero x (neg y) || sized (add binary64 x (neg y)))
 fair_sub x y h = rw (← as_sum x y, ← sub_is x y) h
 
-pub sub_scale : (x y : Float) (a : ℕ) → T (finite x) → T (finite y) → T (difference_is_zero x y || sized (sub binary64 x y))
+pub sub_scale : (x y : Float) (a : ℕ) → T (float_is_finite x) → T (float_is_finite y) → T (difference_is_zero x y || sized (sub binary64 x y))
     → T (difference_is_zero (scale (pos a) x) (scale (pos a) y) || sized (sub binary64 (scale (pos a) x) (scale (pos a) y)))
     → sub binary64 (scale (pos a) x) (scale (pos a) y) ≡ scale (pos a) (sub binary64 x y)
 sub_scale x y a p q g h =
@@ -292,19 +293,19 @@ sub_scale x y a p q g h =
     (subst (λ (z : Float). T (sum_is_zero (scale (pos a) x) z || sized (add binary64 (scale (pos a) x) z))) (neg_scale y a) (fair_sub (scale (pos a) x) (scale (pos a) y) h))
     ∙ ap (scale (pos a)) (sym (sub_is x y))
 
-pub sub_finite : (x y : Float) → T (difference_is_zero x y || sized (sub binary64 x y)) → T (finite (sub binary64 x y))
+pub sub_finite : (x y : Float) → T (difference_is_zero x y || sized (sub binary64 x y)) → T (float_is_finite (sub binary64 x y))
 sub_finite x y g = rw (sub_is x y) (add_finite x (neg y) (fair_sub x y g))
 
 -- ---- the root
 pub root_scale : (x : Float) (t : ℕ) → T (fits binary64 x) → T (fits binary64 (scale (pos (t + t)) x)) → root binary64 (scale (pos (t + t)) x) ≡ scale (pos t) (root binary64 x)
 root_scale x t h g = root_scale_pos binary64 x t h g
 
-root_none : (x : Float) → T (is_nought x) → T (finite (root binary64 x))
-unfolding root
+root_none : (x : Float) → T (is_nought x) → T (float_is_finite (root binary64 x))
+unfolding root float_is_finite
 root_none nan h = h
 root_none (inf s) h = absurd h
 root_none (fin s zero e) h = tt
 root_none (fin s (suc m) e) h = absurd (rw (eqb-suc-zero m) at h)
 
-pub root_finite : (x : Float) → T (is_nought x || sized (root binary64 x)) → T (finite (root binary64 x))
+pub root_finite : (x : Float) → T (is_nought x || sized (root binary64 x)) → T (float_is_finite (root binary64 x))
 root_finite x = fair_finite (is_nought x) (root binary64 x) (root_none x)

@@ -12,7 +12,7 @@ use lib.Ieee.Order.{drop, kept}
 use lib.Ieee.Exact.{HasValue, units_val}
 use lib.Ieee.Positive.{num, den}
 use lib.Ieee.Scale.{overflow, grid, grid_scale, round_same, normal_of_rounded}
-use Rattle.float.specs.Leaves.{finite}
+use Rattle.std.specs.Float.{float_is_finite}
 use Rattle.float.specs.Scale.{scale}
 use Rattle.float.proofs.Exponents.{up_add}
 use Rattle.float.proofs.Units.{fits_low, unique}
@@ -70,24 +70,24 @@ value_under f (fin r m e) s g v h =
     (lt_of_le_of_lt (le_of_eq v.1) (lt_of_lt_of_le (mul-lt-mul_of_pos_right h (down_pos e)) (le_of_eq (ap (λ (z : ℕ). z * down e) (pow-add 2 (low f) (suc (emax f))) ∙ simp (mul_assoc, mul_comm, mul_left_comm)))))
 
 -- ---- the value of a fraction rounded
-units_under : (f : Format) (s : Bool) (q k : ℕ) → T (finite (units f s q k)) → q * 2 ^ k < overflow f
-unfolding units
+units_under : (f : Format) (s : Bool) (q k : ℕ) → T (float_is_finite (units f s q k)) → q * 2 ^ k < overflow f
+unfolding units float_is_finite
 units_under f s q k = go (ltb (q * 2 ^ k) (overflow f)) (ltb→lt (q * 2 ^ k) (overflow f))
   where
-    go : (b : Bool) → (T b → q * 2 ^ k < overflow f) → T (finite (cond b (odd (suc (prec f)) s q k (low f)) (inf s))) → q * 2 ^ k < overflow f
+    go : (b : Bool) → (T b → q * 2 ^ k < overflow f) → T (float_is_finite (cond b (odd (suc (prec f)) s q k (low f)) (inf s))) → q * 2 ^ k < overflow f
     go true h t = h tt
     go false h t = absurd t
 
-module _ (f : Format) (s : Bool) (a c : ℕ) (t : T (finite (round f s a c))) where
+module _ (f : Format) (s : Bool) (a c : ℕ) (t : T (float_is_finite (round f s a c))) where
   round_under : grid f a c < overflow f
-  round_under = units_under f s (kept (prec f) (a * 2 ^ low f) c) (drop (prec f) (a * 2 ^ low f) c) (subst (λ (z : Float). T (finite z)) (round_is f s a c) t)
+  round_under = units_under f s (kept (prec f) (a * 2 ^ low f) c) (drop (prec f) (a * 2 ^ low f) c) (subst (λ (z : Float). T (float_is_finite z)) (round_is f s a c) t)
 
   round_value : HasValue (round f s a c) s (grid f a c) (2 ^ low f)
   round_value = subst (λ (z : Float). HasValue z s (grid f a c) (2 ^ low f)) (sym (round_is f s a c)) (units_val f s (kept (prec f) (a * 2 ^ low f) c) (drop (prec f) (a * 2 ^ low f) c) round_under)
 
 -- ---- the range
-pub sized_finite : (x : Float) → T (sized x) → T (finite x)
-unfolding sized
+pub sized_finite : (x : Float) → T (sized x) → T (float_is_finite x)
+unfolding sized float_is_finite
 sized_finite nan h = h
 sized_finite (inf s) h = h
 sized_finite (fin s m e) h = tt
@@ -119,10 +119,10 @@ pub round_scale : (s : Bool) (a c b d t : ℕ) → 0 < c → 0 < d → b * c ≡
     → round binary64 s b d ≡ scale (pos t) (round binary64 s a c)
 round_scale s a c b d t C D e g h = go binary64 (sized_finite (round binary64 s a c) g) (sized_finite (round binary64 s b d) h) (normal s a c g)
   where
-    go : (f : Format) → T (finite (round f s a c)) → T (finite (round f s b d)) → prec f ≤ size (a * 2 ^ low f / c) → round f s b d ≡ scale (pos t) (round f s a c)
+    go : (f : Format) → T (float_is_finite (round f s a c)) → T (float_is_finite (round f s b d)) → prec f ≤ size (a * 2 ^ low f / c) → round f s b d ≡ scale (pos t) (round f s a c)
     go f p q N =
         let same : round f s b d ≡ round f s (a * 2 ^ t) c = round_same f s b d (a * 2 ^ t) c D C e in
-        let q' : T (finite (round f s (a * 2 ^ t) c)) = rw same at q in
+        let q' : T (float_is_finite (round f s (a * 2 ^ t) c)) = rw same at q in
         let more = grid_scale f a c t C N in
         let x = round f s a c in
         let v : HasValue (scale (pos t) x) s (grid f a c * 2 ^ t) (2 ^ low f) = scale_value x t s (grid f a c) (2 ^ low f) (round_value f s a c p) in

@@ -10,8 +10,8 @@ use lib.Dec.{T, eqb, leb, eqb→eq, leb→le}
 use lib.ListN.{get_or}
 use lib.Ieee.{Float, nan, inf, fin, binary64, fits, add, sub, mul, div, lt, le, eq}
 use lib.Ieee.Fits.{and_i, and_l, and_r, add-fits, sub-fits, mul-fits, div-fits}
+use Rattle.std.specs.Float.{float_is_finite}
 use Rattle.float.specs.Constants.{nought, one}
-use Rattle.float.specs.Leaves.{finite}
 use Rattle.float.specs.Root.{root}
 use Rattle.float.specs.Scale.{scale}
 use Rattle.float.proofs.Fits.{root_fits}
@@ -62,7 +62,7 @@ parts l k m h =
 
 -- ---- the values of two runs, the second 2 ^ t times the first, which is finite
 pub record Grown (t : ℕ) (x x' : Float) : Type 0 where
-  pub whole : T (finite x)
+  pub is_finite : T (float_is_finite x)
   pub held : T (fits binary64 x)
   pub held' : T (fits binary64 x')
   pub is : x' ≡ scale (pos t) x
@@ -98,33 +98,35 @@ Inputs k (d ∷ ds) [] g' = Unit {0}
 Inputs k (d ∷ ds) (x ∷ g) [] = Unit {0}
 Inputs k (d ∷ ds) (x ∷ g) (x' ∷ g') = Input (d * k) x x' × Inputs k ds g g'
 
-fair_input : (x : Float) → T (is_nought x || sized x) → T (finite x)
-unfolding sized
+fair_input : (x : Float) → T (is_nought x || sized x) → T (float_is_finite x)
+unfolding sized float_is_finite
 fair_input nan h = h
 fair_input (inf s) h = h
 fair_input (fin s m e) h = tt
 
 read : (k : ℕ) (gs : List ℕ) (g g' : List Float) → Inputs k gs g g' → (i : ℕ) → T (is_nought (get_or g i nan) || sized (get_or g i nan)) → T (is_nought (get_or g' i nan) || sized (get_or g' i nan)) → Holds k (at gs i) (get_or g i nan) (get_or g' i nan)
+unfolding float_is_finite
 read k [] g g' h i p q = tt
 read k (d ∷ ds) [] g' h i p q = absurd (fair_input nan p)
 read k (d ∷ ds) (x ∷ g) [] h i p q = absurd (fair_input nan q)
-read k (d ∷ ds) (x ∷ g) (x' ∷ g') h zero p q = record { whole = fair_input x p; held = h.0.held; held' = h.0.held'; is = h.0.is }
+read k (d ∷ ds) (x ∷ g) (x' ∷ g') h zero p q = record { is_finite = fair_input x p; held = h.0.held; held' = h.0.held'; is = h.0.is }
 read k (d ∷ ds) (x ∷ g) (x' ∷ g') h (suc i) p q = read k ds g g' h.1 i p q
 
 -- ---- a number of degree 0 stays
 pub scale_flat : (k : ℕ) (x : Float) → scale (pos (0 * k)) x ≡ x
 scale_flat k x = rw (zero-mul k) (scale_none x)
 
-constant : (k : ℕ) (c : Float) → T (fits binary64 c) → Holds k (cond (finite c) (of 0) mixed) c c
+constant : (k : ℕ) (c : Float) → T (fits binary64 c) → Holds k (cond (float_is_finite c) (of 0) mixed) c c
+unfolding float_is_finite
 constant k nan h = tt
 constant k (inf s) h = tt
-constant k (fin s m e) h = record { whole = tt; held = h; held' = h; is = sym (scale_flat k (fin s m e)) }
+constant k (fin s m e) h = record { is_finite = tt; held = h; held' = h; is = sym (scale_flat k (fin s m e)) }
 
 -- ---- one operation `op`, whose exact value is zero where `nil` says so
 -- its law on the operands' powers of two, and what follows for two runs: by `join` it takes operands of two degrees to a result of a third
 abbrev Scales : (Float → Float → Float) → (Float → Float → Bool) → ℕ → ℕ → ℕ → Type 0
 Scales op nil a b t =
-    (x y : Float) → T (finite x) → T (finite y) → T (nil x y || sized (op x y)) → T (nil (scale (pos a) x) (scale (pos b) y) || sized (op (scale (pos a) x) (scale (pos b) y)))
+    (x y : Float) → T (float_is_finite x) → T (float_is_finite y) → T (nil x y || sized (op x y)) → T (nil (scale (pos a) x) (scale (pos b) y) || sized (op (scale (pos a) x) (scale (pos b) y)))
     → op (scale (pos a) x) (scale (pos b) y) ≡ scale (pos t) (op x y)
 
 abbrev Carries : ℕ → (Degree → Degree → Degree) → (Float → Float → Float) → (Float → Float → Bool) → Type 0
@@ -140,13 +142,13 @@ twice_half a h = omega arith
 apart : (a b : ℕ) → b ≤ a → a ≡ a - b + b
 apart a b h = omega arith
 
-module _ (k : ℕ) (op : Float → Float → Float) (nil : Float → Float → Bool) (ends : (x y : Float) → T (nil x y || sized (op x y)) → T (finite (op x y))) (holds : (x y : Float) → T (fits binary64 (op x y))) where
+module _ (k : ℕ) (op : Float → Float → Float) (nil : Float → Float → Bool) (ends : (x y : Float) → T (nil x y || sized (op x y)) → T (float_is_finite (op x y))) (holds : (x y : Float) → T (fits binary64 (op x y))) where
   lift : (a b t : ℕ) → Scales op nil a b t → (x x' y y' : Float) → Grown a x x' → Grown b y y' → T (nil x y || sized (op x y)) → T (nil x' y' || sized (op x' y')) → Grown t (op x y) (op x' y')
   lift a b t law x x' y y' p q g h = record {
-    whole = ends x y g;
+    is_finite = ends x y g;
     held = holds x y;
     held' = holds x' y';
-    is = ap₂ op p.is q.is ∙ law x y p.whole q.whole g (subst₂ (λ (u v : Float). T (nil u v || sized (op u v))) p.is q.is h);
+    is = ap₂ op p.is q.is ∙ law x y p.is_finite q.is_finite g (subst₂ (λ (u v : Float). T (nil u v || sized (op u v))) p.is q.is h);
   }
 
   alike : ((a : ℕ) → Scales op nil a a a) → Carries k same op nil
@@ -197,7 +199,7 @@ module _ (k : ℕ) where
           let t = a / 2 * k in
           let q : Grown (t + t) x x' = by_power (ap (λ (d : ℕ). d * k) (twice_half a (e tt)) ∙ add-mul (a / 2) (a / 2) k) p in
           record {
-            whole = root_finite x g;
+            is_finite = root_finite x g;
             held = root_fits binary64 x p.held;
             held' = root_fits binary64 x' p.held';
             is = ap (root binary64) q.is ∙ root_scale x t p.held (subst (λ (y : Float). T (fits binary64 y)) q.is p.held');
@@ -217,7 +219,8 @@ negative_same t (fin s zero e) = refl
 negative_same t (fin false (suc m) e) = plus_lt m (e +ℤ pos t) ∙ sym (plus_lt m e)
 negative_same t (fin true (suc m) e) = minus_lt m (e +ℤ pos t) ∙ sym (minus_lt m e)
 
-finite_same : (t : ℕ) (x : Float) → not (finite (scale (pos t) x)) ≡ not (finite x)
+finite_same : (t : ℕ) (x : Float) → not (float_is_finite (scale (pos t) x)) ≡ not (float_is_finite x)
+unfolding float_is_finite
 finite_same t nan = refl
 finite_same t (inf s) = refl
 finite_same t (fin s m e) = refl
@@ -279,7 +282,7 @@ module _ (k : ℕ) (gs : List ℕ) (g g' : List Float) (inputs : Inputs k gs g g
     unfolding proper stops
     test (is_zero a) ok c x y = on_any (λ x. eq x nought) zero_same k (degree gs ds a) (eval g v a) (eval g' v' a) ok (formula a c x y)
     test (is_negative a) ok c x y = on_any (λ x. lt x nought) negative_same k (degree gs ds a) (eval g v a) (eval g' v' a) ok (formula a c x y)
-    test (not_finite a) ok c x y = on_any (λ x. not (finite x)) finite_same k (degree gs ds a) (eval g v a) (eval g' v' a) ok (formula a c x y)
+    test (not_finite a) ok c x y = on_any (λ x. not (float_is_finite x)) finite_same k (degree gs ds a) (eval g v a) (eval g' v' a) ok (formula a c x y)
     test (outside_unit a) ok c x y = on_plain (λ x. not (le nought x && le x one)) k (degree gs ds a) (eval g v a) (eval g' v' a) ok (formula a c x y)
     test (is_below a r) ok c x y = on_plain (λ x. lt x r) k (degree gs ds a) (eval g v a) (eval g' v' a) ok (formula a c x y)
 

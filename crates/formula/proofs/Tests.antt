@@ -10,8 +10,8 @@ use lib.Dec.{T, ltb, ltb→lt, nltb→le}
 use lib.IntN.{ℤ, pos, negsuc}
 use lib.Ieee.{Float, nan, inf, fin, up, down, below, lt, eq, le}
 use lib.Ieee.Fits.{down_pos, up_pos}
+use Rattle.std.specs.Float.{float_is_finite}
 use Rattle.float.specs.Constants.{nought, one}
-use Rattle.float.specs.Leaves.{finite}
 use Rattle.float.proofs.Zero.{zero_lt, zero_eq, plus_lt, plus_gt, minus_lt, some_eq}
 use Rattle.formula.specs.Exact.{exactly, stops_at}
 use Rattle.formula.specs.Formula.{Expr, eval, Test, is_zero, is_negative, not_finite, outside_unit, is_below, stops}
@@ -100,7 +100,8 @@ module _ (a : Expr) where
   negative_test (plus {m} {j} {e} z) = plus_lt m e
   negative_test (minus {m} {j} {e} z) = minus_lt m e
 
-  finite_test : {x : Float} {i : ℤ} → Number x i → not (finite x) ≡ stops_at (not_finite a) i
+  finite_test : {x : Float} {i : ℤ} → Number x i → not (float_is_finite x) ≡ stops_at (not_finite a) i
+  unfolding float_is_finite
   finite_test nil = refl
   finite_test (plus z) = refl
   finite_test (minus z) = refl

@@ -1,6 +1,6 @@
 -- Degrees: a formula of degree d grows by 2 ^ (d * s) where its inputs grow so, each by its own degree. Definitions only.
-use Rattle.std.specs.Prelude.{List, [], ◌∷◌, ◌++◌, Bool, true, false, ◌&&◌, cond, ℕ, zero, suc, ◌+◌, ◌-◌, ◌/◌, ◌%◌, eqb, leb}
-use Rattle.float.specs.Leaves.{finite}
+use Rattle.std.specs.Prelude.{List, [], ◌∷◌, ◌++◌, Bool, true, false, cond, ℕ, zero, suc, ◌+◌, ◌-◌, ◌/◌, ◌%◌, eqb, leb}
+use Rattle.std.specs.Float.{float_is_finite}
 use Rattle.formula.specs.Formula.{Expr, given, var, const, ◌⊕◌, ◌⊖◌, ◌⊗◌, ◌⊘◌, √◌, Test, is_zero, is_negative, not_finite, outside_unit, is_below, Stmt, ◌≔◌, fail}
 
 pub data Degree : Type 0 where
@@ -35,7 +35,7 @@ at (d ∷ ds) (suc k) = at ds k
 unfoldable pub degree : List ℕ → List ℕ → Expr → Degree
 degree gs ds (given k) = at gs k
 degree gs ds (var k) = at ds k
-degree gs ds (const c) = cond (finite c) (of 0) mixed
+degree gs ds (const c) = cond (float_is_finite c) (of 0) mixed
 degree gs ds (a ⊕ b) = same (degree gs ds a) (degree gs ds b)
 degree gs ds (a ⊖ b) = same (degree gs ds a) (degree gs ds b)
 degree gs ds (a ⊗ b) = joint (degree gs ds a) (degree gs ds b)
@@ -69,19 +69,3 @@ unfolding proper
 degrees [] gs ds = each ds
 degrees ((x ≔ a) ∷ p) gs ds = elim (degree gs ds a) [ of d ↦ degrees p gs (ds ++ (d ∷ [])) | mixed ↦ mismatch ]
 degrees (fail t ∷ p) gs ds = cond (proper gs ds t) (degrees p gs ds) mismatch
-
--- ---- names: the first variable that a program defines has the number n, the second n + 1, and so on
-abbrev pub is_var : Expr → ℕ → Bool
-is_var (given k) n = false
-is_var (var k) n = eqb k n
-is_var (const c) n = false
-is_var (a ⊕ b) n = false
-is_var (a ⊖ b) n = false
-is_var (a ⊗ b) n = false
-is_var (a ⊘ b) n = false
-is_var (√ a) n = false
-
-unfoldable pub named : ℕ → List Stmt → Bool
-named n [] = true
-named n ((x ≔ a) ∷ p) = is_var x n && named (suc n) p
-named n (fail t ∷ p) = named n p

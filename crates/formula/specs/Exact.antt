@@ -3,8 +3,8 @@ use Rattle.std.specs.Prelude.{◌≡◌, ◌≢◌, List, [], ◌∷◌, ◌++�
 use Rattle.std.specs.Float.{fin}
 use Rattle.std.specs.Float.Ieee.{size, lt}
 use Rattle.float.specs.Root.{whole_root}
-use Rattle.formula.specs.Formula.{Expr, given, var, const, ◌⊕◌, ◌⊖◌, ◌⊗◌, ◌⊘◌, √◌, eval, Test, is_zero, is_negative, not_finite, outside_unit, is_below, stops, Stmt, ◌≔◌, fail, Outcome, admitted, inadmissible}
-use Rattle.formula.specs.Met.{tested}
+use Rattle.formula.specs.Formula.{Expr, given, var, const, ◌⊕◌, ◌⊖◌, ◌⊗◌, ◌⊘◌, √◌, eval, Test, is_zero, is_negative, not_finite, outside_unit, is_below, stops, Stmt, ◌≔◌, fail, Outcome, admitted, inadmissible, run}
+use Rattle.formula.specs.Met.{tested, met_by, all_whole}
 use Rattle.formula.specs.Whole.{is_whole, int_of, whole_constants}
 
 -- the value of a formula, where it has one, from the inputs g and the variables so far v
@@ -100,3 +100,13 @@ unfolding whole_constants
 whole_constants_by n [] = true
 whole_constants_by n ((x ≔ a) ∷ p) = whole_constants n a && whole_constants_by (suc n) p
 whole_constants_by n (fail t ∷ p) = whole_constants n (tested t) && whole_constants_by n p
+
+-- ---- exactness
+-- a program's run over floats is its run over the integers: where it ends, with whole variables, which are those that it has there
+pub record ExactRun (g v : List Float) (p : List Stmt) : Type 0 where
+  pub ends_whole : T (whole_outcome (run p g v))
+  pub runs : Run (ints g) p (ints v) (ending (run p g v))
+
+-- so it is for every input at which each number met is whole and below 2 ^ 53, and those under roots are below 2 ^ 52 or squares
+abbrev pub ExactWhereWhole : List Stmt → Type 0
+ExactWhereWhole p = (g : List Float) → T (all_whole (met_by p g [])) → T (rootables_by p g []) → ExactRun g [] p

@@ -1,9 +1,8 @@
 -- Formulas over floats, each operation rounded once to binary64, and straight programs of them. Definitions only.
-use Rattle.std.specs.Prelude.{List, [], ◌∷◌, ◌++◌, Bool, not, ◌&&◌, cond, ℕ, get_or, Float}
-use Rattle.std.specs.Float.{nan, binary64}
+use Rattle.std.specs.Prelude.{List, [], ◌∷◌, ◌++◌, Bool, true, false, not, ◌&&◌, cond, ℕ, suc, eqb, get_or, Float}
+use Rattle.std.specs.Float.{nan, binary64, float_is_finite}
 use Rattle.std.specs.Float.Ieee.{add, sub, mul, div, lt, le, eq}
 use Rattle.float.specs.Constants.{nought, one}
-use Rattle.float.specs.Leaves.{finite}
 use Rattle.float.specs.Power.{power_of}
 use Rattle.float.specs.Root.{root}
 
@@ -46,7 +45,7 @@ unfoldable pub stops : List Float → List Float → Test → Bool
 unfolding eval
 stops g v (is_zero a) = eq (eval g v a) nought
 stops g v (is_negative a) = lt (eval g v a) nought
-stops g v (not_finite a) = not (finite (eval g v a))
+stops g v (not_finite a) = not (float_is_finite (eval g v a))
 stops g v (outside_unit a) = not (le nought (eval g v a) && le (eval g v a) one)
 stops g v (is_below a c) = lt (eval g v a) c
 
@@ -72,3 +71,13 @@ unfolding eval
 untested [] g v = v
 untested ((x ≔ a) ∷ p) g v = untested p g (v ++ (eval g v a ∷ []))
 untested (fail t ∷ p) g v = untested p g v
+
+-- ---- names: whether every variable stands where its name says: the first that a program defines has the number n, the second n + 1, and so on
+abbrev pub is_var : Expr → ℕ → Bool
+is_var (var k) n = eqb k n
+is_var a n = false
+
+unfoldable pub named : ℕ → List Stmt → Bool
+named n [] = true
+named n ((x ≔ a) ∷ p) = is_var x n && named (suc n) p
+named n (fail t ∷ p) = named n p

@@ -1,8 +1,7 @@
 -- The range in which rounding does not see a multiplication by a power of two, and whether an operation's exact value is zero. Definitions only.
 use Rattle.std.specs.Prelude.{Bool, false, not, ◌&&◌, ◌||◌, ◌*◌, ◌^◌, leb, eqb, Float}
-use Rattle.std.specs.Float.{nan, inf, fin}
+use Rattle.std.specs.Float.{nan, inf, fin, float_is_finite}
 use Rattle.std.specs.Float.Ieee.{up, down, eq, neg}
-use Rattle.float.specs.Leaves.{finite}
 
 -- from 2 ^ -900 to 2 ^ 900 in size
 unfoldable pub sized : Float → Bool
@@ -18,13 +17,13 @@ is_nought (fin s m e) = eqb m 0
 
 -- ---- whether an operation's exact value, before it is rounded, is zero
 unfoldable pub sum_is_zero : Float → Float → Bool
-sum_is_zero x y = finite x && eq x (neg y)
+sum_is_zero x y = float_is_finite x && eq x (neg y)
 
 unfoldable pub difference_is_zero : Float → Float → Bool
-difference_is_zero x y = finite x && eq x y
+difference_is_zero x y = float_is_finite x && eq x y
 
 unfoldable pub product_is_zero : Float → Float → Bool
-product_is_zero x y = finite x && finite y && (is_nought x || is_nought y)
+product_is_zero x y = float_is_finite x && float_is_finite y && (is_nought x || is_nought y)
 
 unfoldable pub quotient_is_zero : Float → Float → Bool
-quotient_is_zero x y = is_nought x && finite y && not (is_nought y)
+quotient_is_zero x y = is_nought x && float_is_finite y && not (is_nought y)

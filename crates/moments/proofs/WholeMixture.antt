@@ -4,9 +4,9 @@ use lib.Dec.{T}
 use lib.Ieee.{Float}
 use Rattle.float.specs.Power.{power_of}
 use Rattle.formula.specs.Exact.{rootables_by, whole_constants_by}
-use Rattle.formula.specs.Met.{met_by, all_whole}
 use Rattle.formula.specs.Whole.{is_whole}
-use Rattle.formula.proofs.WholePrograms.{ExactRun, program_exact}
+use Rattle.formula.proofs.WholePrograms.{program_exact}
+use Rattle.moments.specs.ExactMixture.{MixtureExact}
 use Rattle.moments.specs.Mixture.{mixture}
 
 constants : T (whole_constants_by 0 mixture)
@@ -18,5 +18,5 @@ roots : (g : List Float) → T (rootables_by mixture g [])
 unfolding rootables_by mixture power_of
 roots g = tt
 
-pub mixture_exact : (g : List Float) → T (all_whole (met_by mixture g [])) → ExactRun g [] mixture
+pub mixture_exact : MixtureExact
 mixture_exact g w = program_exact g mixture [] tt constants w (roots g)

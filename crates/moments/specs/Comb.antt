@@ -1,17 +1,18 @@
 -- Binomial numbers over floats, as the Rust's comb works them out. Definitions only.
-use Rattle.std.specs.Prelude.{cond, ℕ, zero, suc, ◌+◌, ◌-◌, ltb, min, pos, Float}
+use Rattle.std.specs.Prelude.{cond, ℕ, zero, suc, ◌+◌, ◌-◌, ltb, min, Float}
 use Rattle.std.specs.Float.{binary64}
-use Rattle.std.specs.Float.Ieee.{mul, div, of_int}
+use Rattle.std.specs.Float.Ieee.{mul, div}
 use Rattle.float.specs.Constants.{nought, one}
+use Rattle.float.specs.Leaves.{as_f64}
 
 -- n (n - 1) .. (n - k + 1), and 1 2 .. k
 unfoldable pub falling : ℕ → ℕ → Float
 falling n zero = one
-falling n (suc i) = mul binary64 (falling n i) (of_int binary64 (pos (n - i)))
+falling n (suc i) = mul binary64 (falling n i) (as_f64 (n - i))
 
 unfoldable pub rising : ℕ → Float
 rising zero = one
-rising (suc i) = mul binary64 (rising i) (of_int binary64 (pos (i + 1)))
+rising (suc i) = mul binary64 (rising i) (as_f64 (i + 1))
 
 unfoldable pub choose : ℕ → ℕ → Float
 unfolding falling rising

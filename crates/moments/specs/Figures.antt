@@ -1,13 +1,10 @@
 -- Parameters and the numbers of figures, written short. Definitions only.
-use Rattle.std.specs.Prelude.{false, ℕ, pos, Float}
+use Rattle.std.specs.Prelude.{false, ℕ, Float}
 use Rattle.std.specs.Float.{binary64}
-use Rattle.std.specs.Float.Ieee.{round, of_int}
+use Rattle.std.specs.Float.Ieee.{round}
 use Rattle.moments.specs.declared.Params.{Params}
 
--- the whole number n, and n / 2
-abbrev pub whole : ℕ → Float
-whole n = of_int binary64 (pos n)
-
+-- n / 2
 abbrev pub half : ℕ → Float
 half n = round binary64 false n 2
 

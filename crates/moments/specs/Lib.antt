@@ -1,5 +1,6 @@
 pub mod Comb
 pub mod Constants
+pub mod ExactMixture
 pub mod Figures
 pub mod Lists
 pub mod Mixture

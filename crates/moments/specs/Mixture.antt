@@ -1,8 +1,8 @@
 -- The raw moments of a mixture, from López de Prado and Foreman (2014), in the Rust's order of operations (get_moments). Definitions only.
-use Rattle.std.specs.Prelude.{List, [], ◌∷◌, Float, get_or}
+use Rattle.std.specs.Prelude.{◌≡◌, refl, true, List, [], ◌∷◌, Float, get_or}
 use Rattle.std.specs.Float.{nan}
 use Rattle.float.specs.Constants as constants
-use Rattle.formula.specs.Formula.{Expr, given, var, const, ◌⊕◌, ◌⊖◌, ◌⊗◌, ◌↑◌, Stmt, ◌≔◌, Outcome, admitted, inadmissible, eval, run}
+use Rattle.formula.specs.Formula.{Expr, given, var, const, ◌⊕◌, ◌⊖◌, ◌⊗◌, ◌↑◌, Stmt, ◌≔◌, Outcome, admitted, inadmissible, eval, run, named}
 use Rattle.moments.specs.Constants as numbers
 use Rattle.moments.specs.declared.Params.{Params}
 use Rattle.moments.specs.declared.Five.{Five}
@@ -80,6 +80,11 @@ mixture =
     ∷ m₄ ≔ p₁ ⊗ fourth u₁ s₁ ⊕ p₂ ⊗ fourth u₂ s₂
     ∷ m₅ ≔ p₁ ⊗ fifth u₁ s₁ ⊕ p₂ ⊗ fifth u₂ s₂
     ∷ []
+
+-- each variable stands where its name says
+named_mixture : named 0 mixture ≡ true
+unfolding named mixture
+named_mixture = refl
 
 -- the five moments of one curve
 unfoldable pub curve_moments : Float → Float → Five

@@ -1,21 +1,15 @@
--- Size, finiteness and the larger of two: the library's words for them say the same. Assumes nothing.
+-- Size and the larger of two: the library's words for them say the same. Assumes nothing.
 use Rattle.std.proofs.Common.{◌≡◌, refl, true, false}
 use lib.Ieee.{Float, nan, inf, fin, is_nan, lt}
-use Rattle.std.specs.Float.{float_with_sign, float_is_finite}
+use Rattle.std.specs.Float.{float_with_sign}
 use Rattle.float.proofs.Zero.{clash}
-use Rattle.float.specs.Leaves.{abs_of, finite, larger_of}
+use Rattle.float.specs.Leaves.{abs_of, larger_of}
 
 pub abs_is : (x : Float) → float_with_sign false x ≡ abs_of x
 unfolding float_with_sign abs_of
 abs_is nan = refl
 abs_is (inf s) = refl
 abs_is (fin s m e) = refl
-
-pub finite_is : (x : Float) → float_is_finite x ≡ finite x
-unfolding float_is_finite
-finite_is nan = refl
-finite_is (inf s) = refl
-finite_is (fin s m e) = refl
 
 -- ---- larger
 pub larger_nan : (x y : Float) → is_nan x ≡ true → y ≡ larger_of x y

@@ -3,10 +3,10 @@
 #![tactic(auto)]
 
 ghost use Rattle.std.specs.Prelude.{◌≡◌};
-ghost use Rattle.std.specs.Float.{binary64};
+ghost use Rattle.std.specs.Float.{binary64, float_is_finite};
 ghost use Rattle.std.specs.Float.Ieee.{of_int, to_signed, to_unsigned};
 ghost use Rattle.float.specs.Keys.{key_of};
-ghost use Rattle.float.specs.Leaves.{abs_of, finite, larger_of};
+ghost use Rattle.float.specs.Leaves.{abs_of, larger_of};
 
 pub mod power; // power.rt: powi
 
@@ -21,9 +21,8 @@ pub fn abs(x: f64) -> f64
 }
 
 // Neither infinite nor NaN.
-#[tactic(auto, using(crate::proofs::Sizes::finite_is))]
 pub fn is_finite(x: f64) -> bool
-    ensures { result ≡ finite x }
+    ensures { result ≡ float_is_finite x }
 {
     x.is_finite()
 }

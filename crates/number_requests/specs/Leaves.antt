@@ -1,8 +1,8 @@
 -- The requests of the number leaves, each by its words and what they come to, and the reply to a line. Definitions only.
 use Rattle.std.specs.Prelude.{ℕ, cond, List, Option, None}
-use Rattle.std.specs.Float.{binary64}
+use Rattle.std.specs.Float.{binary64, float_is_finite}
 use Rattle.std.specs.Float.Ieee.{of_int, to_signed, to_unsigned}
-use Rattle.float.specs.Leaves.{abs_of, finite, larger_of}
+use Rattle.float.specs.Leaves.{abs_of, larger_of}
 use Rattle.float.specs.Power.{power}
 use Rattle.float.specs.Root.{root}
 use Rattle.text.specs.Decode.{Got}
@@ -26,7 +26,7 @@ abbrev pub abs : List ℕ → Got Reply
 abs = of_one next_fraction (λ x. Fraction (abs_of x))
 
 abbrev pub is_finite : List ℕ → Got Reply
-is_finite = of_one next_fraction (λ x. Natural (cond (finite x) 1 0))
+is_finite = of_one next_fraction (λ x. Natural (cond (float_is_finite x) 1 0))
 
 abbrev pub as_i64 : List ℕ → Got Reply
 as_i64 = of_one next_fraction (λ x. Instant (to_signed 63 x))

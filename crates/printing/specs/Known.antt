@@ -11,6 +11,7 @@ use Rattle.refusal.specs.declared.Refusal.TheVariants.{TooFewWeights}
 use Rattle.protocol_lists.specs.Lists.{values_of}
 use Rattle.replies.specs.declared.forms.Columns.TheVariants.{One, Two}
 use Rattle.replies.specs.declared.forms.Reply as reply
+use Rattle.step.specs.declared.Step.TheVariants.{Inadmissible}
 use Rattle.printing_values.specs.Rows.{rows_from}
 use Rattle.printing_values.specs.Texts.{fractions}
 use Rattle.printing.specs.Lines.{line}
@@ -29,7 +30,7 @@ abbrev replies : List (Row (Option reply.Reply) (List ℕ))
 replies =
     (None ⇒ bytes "bad\n")
     ∷ (Some (reply.TheVariants.Refused TooFewWeights) ⇒ bytes "refused 6\n")
-    ∷ (Some reply.TheVariants.Inadmissible ⇒ bytes "inadmissible\n")
+    ∷ (Some (reply.TheVariants.Stepped Inadmissible) ⇒ bytes "inadmissible\n")
     ∷ (Some (reply.TheVariants.Instant (negsuc 4)) ⇒ bytes "ok -5\n")
     ∷ (Some (reply.TheVariants.Listed 1 2) ⇒ bytes "ok 1 3ff0000000000000 3ff0000000000000\n")
     ∷ (Some (reply.TheVariants.Spanned (record { count = 2; columns = One; starts = 8 })) ⇒ bytes "ok 2 0 3ff0000000000000 5 3ff0000000000000\n")

@@ -3,6 +3,7 @@ use Rattle.std.specs.Prelude.{ℕ, List, [], ◌∷◌, ◌++◌, Float, Option,
 use Rattle.text.specs.Bytes.{bytes}
 use Rattle.replies.specs.declared.forms.Reply as reply
 use Rattle.printing_values.specs.Values.{values}
+use Rattle.step.specs.declared.Step.TheVariants.{Admitted, Inadmissible}
 
 -- the word that a reply begins with
 abbrev pub head : reply.Reply → List ℕ
@@ -11,8 +12,8 @@ head (reply.TheVariants.Fraction x) = bytes "ok"
 head (reply.TheVariants.Natural n) = bytes "ok"
 head (reply.TheVariants.Instant i) = bytes "ok"
 head (reply.TheVariants.Moments m) = bytes "ok"
-head (reply.TheVariants.Parameters p) = bytes "ok"
-head reply.TheVariants.Inadmissible = bytes "inadmissible"
+head (reply.TheVariants.Stepped (Admitted r)) = bytes "ok"
+head (reply.TheVariants.Stepped Inadmissible) = bytes "inadmissible"
 head (reply.TheVariants.Walked w) = bytes "ok"
 head (reply.TheVariants.Searched f) = bytes "ok"
 head (reply.TheVariants.Listed count len) = bytes "ok"

@@ -7,6 +7,7 @@ ghost use Rattle.text_write.specs.Appending.{Appended, Puts};
 ghost use Rattle.printing.specs.Lines.{head, line};
 
 use replies::Reply;
+use step::Step;
 use text_write::Text;
 
 pub fn put_bad(text: &mut Text)
@@ -35,7 +36,7 @@ fn head(r: Reply) -> &'static [u8]
 {
     match r {
         Reply::Refused(_) => b"refused",
-        Reply::Inadmissible => b"inadmissible",
+        Reply::Stepped(Step::Inadmissible) => b"inadmissible",
         _ => b"ok",
     }
 }

@@ -7,6 +7,7 @@ use Rattle.text.specs.Bytes.{bytes}
 use Rattle.replies.specs.declared.forms.Report.{Report}
 use Rattle.replies.specs.declared.forms.Reply as reply
 use Rattle.replies.specs.declared.forms.Search.{Search}
+use Rattle.step.specs.StepNumbers.{numbers_of}
 use Rattle.walk.specs.Reasons as reason
 use Rattle.printing_values.specs.Rows.{rows}
 use Rattle.printing_values.specs.Texts.{fractions, instant, natural}
@@ -31,8 +32,7 @@ values (reply.TheVariants.Fraction x) s xs = fractions (x ∷ [])
 values (reply.TheVariants.Natural n) s xs = natural n
 values (reply.TheVariants.Instant i) s xs = instant i
 values (reply.TheVariants.Moments m) s xs = fractions (listed m)
-values (reply.TheVariants.Parameters p) s xs = fractions (params_listed p)
-values reply.TheVariants.Inadmissible s xs = []
+values (reply.TheVariants.Stepped t) s xs = fractions (numbers_of t)
 values (reply.TheVariants.Walked w) s xs = walked w
 values (reply.TheVariants.Searched f) s xs = searched f
 values (reply.TheVariants.Listed count len) s xs = natural count ++ fractions (take len xs)

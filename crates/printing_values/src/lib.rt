@@ -10,7 +10,7 @@ use text_write::Text;
 mod lists; // lists.rt: a list of fractions
 mod numbers; // numbers.rt: numbers, each after a blank
 mod rows; // rows.rt: a row for each span
-mod states; // states.rt: how a walk or a search ended, and the state after it
+mod states; // states.rt: a step, and how a walk or a search ended, with the state after it
 
 // Puts the values of the reply to the request s, beside which stands the list xs.
 pub fn put_values(text: &mut Text, r: Reply, s: &[u8], xs: &[f64])
@@ -22,8 +22,7 @@ pub fn put_values(text: &mut Text, r: Reply, s: &[u8], xs: &[f64])
         Reply::Natural(n) => numbers::put_natural(text, n),
         Reply::Instant(i) => numbers::put_instant(text, i),
         Reply::Moments(m) => numbers::put_fractions(text, &<[f64; 5]>::from(m)),
-        Reply::Parameters(p) => numbers::put_fractions(text, &<[f64; 5]>::from(p)),
-        Reply::Inadmissible => {}
+        Reply::Stepped(s) => states::put_step(text, s),
         Reply::Walked(w) => states::put_walk(text, w),
         Reply::Searched(f) => states::put_search(text, f),
         Reply::Listed { count, len } => lists::put(text, count, len, xs),

@@ -1,11 +1,23 @@
-// How a walk or a search ended, and the state after it.
+// A step, and how a walk or a search ended, with the state after it.
+ghost use Rattle.step.specs.StepNumbers.{numbers_of};
 ghost use Rattle.text_write.specs.Appending.{Puts};
+ghost use Rattle.printing_values.specs.Texts.{fractions};
 ghost use Rattle.printing_values.specs.Values.{found, searched, walked};
 
 use crate::numbers;
 use fit_state::FitResultRow;
 use replies::{Report, Search};
+use step::Step;
 use text_write::Text;
+
+#[tactic(auto, unfolding(crate::specs::Texts::fractions))]
+pub(crate) fn put_step(text: &mut Text, s: Step)
+    ensures { Puts text.old text.new (fractions (numbers_of s)) }
+{
+    if let Step::Admitted(p) = s {
+        numbers::put_fractions(text, &<[f64; 5]>::from(p));
+    }
+}
 
 pub(crate) fn put_walk(text: &mut Text, w: Report)
     ensures { Puts text.old text.new (walked w) }

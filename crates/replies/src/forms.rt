@@ -1,7 +1,8 @@
 // The replies.
 use fit_state::{Fit, FitResultRow};
-use moments::{Five, Params};
+use moments::Five;
 use refusal::Refusal;
+use step::Step;
 use walk::Ended;
 
 // How a walk ended, and the state after it.
@@ -44,9 +45,7 @@ pub enum Reply {
     Natural(u64),
     Instant(i64),
     Moments(Five),
-    Parameters(Params),
-    // of a step
-    Inadmissible,
+    Stepped(Step),
     Walked(Report),
     Searched(Search),
     // so many entries, of len fractions in all, which stand in a list beside the reply

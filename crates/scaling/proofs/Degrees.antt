@@ -1,12 +1,12 @@
--- The degrees of the steps' variables, each by computation; that the format holds the steps' constants; and that each variable stands where its name says. Assumes nothing.
+-- The degrees of the steps' variables, each by computation; and that the format holds the steps' constants. Assumes nothing.
 use mathlib.Core.Path.{◌≡◌, refl}
 use mathlib.Core.List.{List, [], ◌∷◌}
 use Prim.Native.Nat.{ℕ}
-use mathlib.Core.Bool.{true}
 use lib.Dec.{T}
 use lib.Ieee.{fits}
+use Rattle.std.specs.Float.{float_is_finite}
 use Rattle.float.specs.Power.{power_of}
-use Rattle.formula.specs.Degree.{each, degrees, named}
+use Rattle.formula.specs.Degree.{each, degrees}
 use Rattle.formula.proofs.Scaled.{constants_fit_by}
 use Rattle.step.specs.Steps.{iter_4, iter_5}
 
@@ -25,11 +25,11 @@ abbrev pub vars_5 : List ℕ
 vars_5 = 1 ∷ 1 ∷ 2 ∷ 1 ∷ 2 ∷ 1 ∷ 4 ∷ 2 ∷ 2 ∷ 1 ∷ 5 ∷ 5 ∷ 0 ∷ []
 
 pub degrees_4 : degrees iter_4 given_4 [] ≡ each vars_4
-unfolding degrees iter_4 power_of
+unfolding degrees iter_4 power_of float_is_finite
 degrees_4 = refl
 
 pub degrees_5 : degrees iter_5 given_5 [] ≡ each vars_5
-unfolding degrees iter_5 power_of
+unfolding degrees iter_5 power_of float_is_finite
 degrees_5 = refl
 
 pub constants_4 : T (constants_fit_by iter_4)
@@ -39,12 +39,3 @@ constants_4 = tt
 pub constants_5 : T (constants_fit_by iter_5)
 unfolding constants_fit_by iter_5 power_of fits
 constants_5 = tt
-
--- each variable stands where its name says
-pub named_4 : named 0 iter_4 ≡ true
-unfolding named iter_4
-named_4 = refl
-
-pub named_5 : named 0 iter_5 ≡ true
-unfolding named iter_5
-named_5 = refl

@@ -9,13 +9,13 @@ use lib.Dec.{T}
 use lib.ListN.{get_or}
 use lib.Ieee.{Float, nan, binary64, fits, round, of_int, add, sub, mul, div, neg, eq, lt, le}
 use lib.Ieee.Fits.{and_l, and_r}
-use Rattle.float.specs.Leaves.{abs_of}
+use Rattle.float.specs.Leaves.{abs_of, as_f64}
 use Rattle.float.specs.Power.{power_of}
 use Rattle.float.specs.Root.{root}
 use Rattle.float.specs.Scale.{scale}
 use Rattle.formula.specs.Met.{met_by}
 use Rattle.formula.specs.Range.{sized, sum_is_zero, difference_is_zero, product_is_zero, quotient_is_zero}
-use Rattle.moments.specs.Figures.{whole, half}
+use Rattle.moments.specs.Figures.{half}
 use Rattle.moments.specs.declared.Five.{Five}
 use Rattle.step.specs.Steps.{step_4, step_5}
 use Rattle.scaling.specs.Scaling.{fair_walk, Compared}
@@ -98,7 +98,7 @@ abbrev part : ℕ → ℕ → Float
 part a b = round binary64 false a b
 
 abbrev M : Five
-M = record { m_1 = whole 1; m_2 = half 9; m_3 = whole 16; m_4 = half 163; m_5 = whole 416 }
+M = record { m_1 = as_f64 1; m_2 = half 9; m_3 = as_f64 16; m_4 = half 163; m_5 = as_f64 416 }
 
 abbrev on_M : (variant limit : ℕ) (tolerance : Float) → M2N
 on_M variant limit tolerance = record (example_state M) { variant = variant; max_iter = limit; epsilon = tolerance }
@@ -110,7 +110,7 @@ pub record Example (m : M2N) (μ p : Float) (count : ℕ) (reason : Reason) (l :
 
 -- by 2; by 1/8; by a large power of two
 pub record Examples (variant : ℕ) (large : ℤ) (tolerance μ p : Float) : Type 0 where
-  pub spent : Example (on_M variant 2 (part 1 1048576)) (whole 2) (part 5 8) 2 Spent (pos 1 ∷ negsuc 2 ∷ large ∷ [])
+  pub spent : Example (on_M variant 2 (part 1 1048576)) (as_f64 2) (part 5 8) 2 Spent (pos 1 ∷ negsuc 2 ∷ large ∷ [])
   pub settled : Example (on_M variant 100 tolerance) μ p 2 Settled (pos 1 ∷ [])
   pub inadmissible : Example (on_M variant 100 (part 1 1048576)) (half 5) (half 1) 2 Inadmissible (negsuc 2 ∷ [])
 

@@ -12,9 +12,10 @@ use lib.ListN.{length, length-append, take, get_or}
 use Rattle.std.specs.List.{flat_map}
 use Rattle.std.proofs.lemmas.Grind.{flat_map-append}
 use Rattle.std.proofs.lemmas.List.{take_more}
+use Rattle.float.specs.Leaves.{as_f64}
 use Rattle.bet_sizing.specs.declared.counts.Side.{Side}
 use Rattle.bet_sizing.specs.declared.counts.Side.TheVariants.{Long, Short}
-use Rattle.bet_sizing.specs.Counts.{concurrent, live, on_side, whole}
+use Rattle.bet_sizing.specs.Counts.{concurrent, live, on_side}
 use Rattle.bet_sizing.proofs.Ranks.{indicator_le}
 use Rattle.budget.specs.Budget.{budget_size}
 use Rattle.text.specs.Print.{Placed}
@@ -34,8 +35,8 @@ concurrent_few side t (s ∷ ss) [] ds = omega arith
 concurrent_few side t (s ∷ ss) (e ∷ es) [] = omega arith
 concurrent_few side t (s ∷ ss) (e ∷ es) (d ∷ ds) = omega (arith, indicator_le (live t s e && on_side side d), concurrent_few side t ss es ds)
 
-whole_back : (n : ℕ) → n ≤ 1024 → to_unsigned 64 (whole n) ≡ n
-unfolding whole in_float
+whole_back : (n : ℕ) → n ≤ 1024 → to_unsigned 64 (as_f64 n) ≡ n
+unfolding in_float
 whole_back n h = (unsigned_back binary64 64 n (rw (le-leb n 9007199254740992 (omega arith)) tt) (omega arith)).1
 
 -- ---- texts one after another, from the front of a buffer of n bytes: t so far, at most k bytes of it
@@ -66,8 +67,8 @@ Rowed n ss es ds t i = Front n t.out.now t.end (flat_map (row_at ss es ds) (take
 
 -- the counts and sizes at each start beside them
 pub record Beside (ss es : List ℤ) (ds long short size : List Float) : Type 0 where
-  pub longs : (i : ℕ) → i < length ss → get_or long i nan ≡ whole (concurrent Long (get_or ss i (pos 0)) ss es ds)
-  pub shorts : (i : ℕ) → i < length ss → get_or short i nan ≡ whole (concurrent Short (get_or ss i (pos 0)) ss es ds)
+  pub longs : (i : ℕ) → i < length ss → get_or long i nan ≡ as_f64 (concurrent Long (get_or ss i (pos 0)) ss es ds)
+  pub shorts : (i : ℕ) → i < length ss → get_or short i nan ≡ as_f64 (concurrent Short (get_or ss i (pos 0)) ss es ds)
   pub sizes : (i : ℕ) → i < length ss → get_or size i nan ≡ budget_size ss es ds (get_or ss i (pos 0))
 
 module _ (ss es : List ℤ) (ds long short size : List Float) (t₀ : Text) (h : Countable ss es ds t₀) (b : Beside ss es ds long short size) where
@@ -83,7 +84,7 @@ module _ (ss es : List ℤ) (ds long short size : List Float) (t₀ : Text) (h :
   row_one u u' i below w p =
       let t = get_or ss i (pos 0) in
       let few = h.few in
-      let back : (side : Side) → to_unsigned 64 (whole (concurrent side t ss es ds)) ≡ concurrent side t ss es ds = λ side. whole_back (concurrent side t ss es ds) (omega (arith, few, concurrent_few side t ss es ds)) in
+      let back : (side : Side) → to_unsigned 64 (as_f64 (concurrent side t ss es ds)) ≡ concurrent side t ss es ds = λ side. whole_back (concurrent side t ss es ds) (omega (arith, few, concurrent_few side t ss es ds)) in
       let q : Appended u u' (row_at ss es ds t) = rw (b.longs i below, b.shorts i below, b.sizes i below, back Long, back Short) at p in
       let k : 128 * (i + 1) ≡ 128 * i + 128 = omega arith in
       rw (take_more ss i (pos 0) below, flat_map-append, append-nil, k)

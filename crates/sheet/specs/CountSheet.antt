@@ -1,19 +1,22 @@
 -- The count sheet as a whole, bytes in to bytes out. Definitions only.
-use Rattle.std.specs.Prelude.{ℕ, List, map, ◌++◌, Ok, Err}
-use Rattle.refusal.specs.Numbers.{number_of}
-use Rattle.refusal.specs.declared.Refusal.TheVariants as refusals
+use Rattle.std.specs.Prelude.{ℕ, List, [], ◌∷◌, map, ◌++◌, Ok, Err}
 use Rattle.text.specs.Bytes.{bytes}
 use Rattle.text.specs.Print.{decimal}
 use Rattle.sheet_read.specs.Meaning.{from_of, to_of, side_of}
 use Rattle.sheet_read.specs.Sheet.{Reading, sheet}
+use Rattle.sheet_read.specs.SheetErrors.{numbers_of}
 use Rattle.sheet_read.specs.declared.SheetError.{SheetError}
-use Rattle.sheet_read.specs.declared.SheetError.TheVariants.{Refused, NotASpan}
 use Rattle.sheet.specs.Rows.{row_lines}
 
--- document 01's number, and the line that is no span form
+-- numbers, with a blank between two
+abbrev pub spaced : List ℕ → List ℕ
+spaced [] = []
+spaced (n ∷ []) = decimal n
+spaced (n ∷ m ∷ l) = decimal n ++ (bytes " " ++ spaced (m ∷ l))
+
+-- why a sheet is refused
 unfoldable pub reason : SheetError → List ℕ
-reason (Refused e) = decimal (number_of e)
-reason (NotASpan line) = decimal (number_of refusals.NotASpan) ++ (bytes " " ++ decimal line)
+reason e = spaced (numbers_of e)
 
 -- the only line where a sheet is refused
 unfoldable pub refusal : SheetError → List ℕ

@@ -3,7 +3,7 @@ use Rattle.std.specs.Prelude.{ℕ, ◌≡◌, refl, List, [], ◌∷◌, ◌++�
 use Prim.Native.String.{String}
 use Rattle.std.specs.Float.Ieee.{of_bits, to_bits, of_int, lt, div, sub, round, units, odd, size, sum, add, neg, span, climb}
 use Rattle.float.specs.Leaves.{larger_of}
-use Rattle.bet_sizing.specs.Counts.{concurrent, whole}
+use Rattle.bet_sizing.specs.Counts.{concurrent}
 use Rattle.budget.specs.Budget.{largest_from}
 use Rattle.text.specs.Bytes.{bytes}
 use Rattle.text.specs.Decode.{word, nibble, numeral, natural, instant, hexes}
@@ -21,7 +21,7 @@ worked : count_sheet
     ≡ bytes "(row (at 0) (long 1) (short 0) (size 3ff0000000000000))\n"
     ++ bytes "(row (at 5) (long 1) (short 1) (size 0000000000000000))\n"
     ++ bytes "(row (at 10) (long 1) (short 1) (size 0000000000000000))\n"
-unfolding word nibble numeral natural instant hexes span_form line_form lines sheet width decimal hex shown row_line row_at concurrent largest_from larger_of whole lt of_bits to_bits of_int div sub add neg sum round units odd size span climb
+unfolding word nibble numeral natural instant hexes span_form line_form lines sheet width decimal hex shown row_line row_at concurrent largest_from larger_of lt of_bits to_bits of_int div sub add neg sum round units odd size span climb
 worked = refl
 
 empty : count_sheet [] ≡ []

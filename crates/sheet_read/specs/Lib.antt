@@ -1,3 +1,4 @@
 pub mod Meaning
 pub mod Sheet
+pub mod SheetErrors
 pub mod Spelling

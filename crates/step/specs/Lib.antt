@@ -1,4 +1,6 @@
 pub mod Constants
+pub mod ExactSteps
 pub mod Parts
+pub mod StepNumbers
 pub mod Steps
 pub mod Weight

@@ -1,8 +1,8 @@
 -- The two steps of the fit, from López de Prado and Foreman (2014), as programs of formulas, each beside the Rust's iter_4 and iter_5, line by line. Definitions only.
-use Rattle.std.specs.Prelude.{List, [], ◌∷◌, ◌++◌, get_or, Float}
+use Rattle.std.specs.Prelude.{◌≡◌, refl, true, List, [], ◌∷◌, ◌++◌, get_or, Float}
 use Rattle.std.specs.Float.{nan}
 use Rattle.float.specs.Constants as constants
-use Rattle.formula.specs.Formula.{Expr, given, var, const, ◌⊕◌, ◌⊖◌, ◌⊗◌, ◌⊘◌, ◌↑◌, √◌, is_zero, is_negative, not_finite, outside_unit, is_below, Stmt, ◌≔◌, fail, Outcome, admitted, inadmissible, eval, run, untested}
+use Rattle.formula.specs.Formula.{Expr, given, var, const, ◌⊕◌, ◌⊖◌, ◌⊗◌, ◌⊘◌, ◌↑◌, √◌, is_zero, is_negative, not_finite, outside_unit, is_below, Stmt, ◌≔◌, fail, Outcome, admitted, inadmissible, eval, run, untested, named}
 use Rattle.moments.specs.Constants as numbers
 use Rattle.moments.specs.Mixture.{fifth}
 use Rattle.step.specs.Constants as steps
@@ -44,7 +44,7 @@ m₄ = given 5
 abbrev m₅ : Expr
 m₅ = given 6
 
--- the variables, in the order of their definition
+-- the variables, in the order of their definition; `named` checks, beside each program, that they stand where it defines them
 abbrev pub μ₁ : Expr
 μ₁ = var 0
 
@@ -106,6 +106,10 @@ curves =
     ∷ σ₁ ≔ √ σ₁²
     ∷ []
 
+named_curves : named 0 curves ≡ true
+unfolding named curves
+named_curves = refl
+
 unfoldable pub iter_4 : List Stmt
 unfolding curves
 iter_4 =
@@ -115,6 +119,10 @@ iter_4 =
     ∷ p₁' ≔ (m₄ ⊖ 𝟑 ⊗ σ₂ ↑ 4 ⊖ 𝟔 ⊗ σ₂ ↑ 2 ⊗ μ₂ ↑ 2 ⊖ μ₂ ↑ 4) ⊘ deno
     ∷ fail (outside_unit p₁')
     ∷ []
+
+named_4 : named 0 iter_4 ≡ true
+unfolding named iter_4
+named_4 = refl
 
 unfoldable pub iter_5 : List Stmt
 unfolding curves
@@ -134,6 +142,10 @@ iter_5 =
     ∷ p₁'' ≔ (m₅ ⊖ b₂) ⊘ (a₂ ⊖ b₂)
     ∷ fail (outside_unit p₁'')
     ∷ []
+
+named_5 : named 0 iter_5 ≡ true
+unfolding named iter_5
+named_5 = refl
 
 -- the value of σ₂², whatever the tests before it say
 unfoldable pub sigma2_squared : List Float → Float → Float → Float

@@ -3,7 +3,7 @@
 // stand in an array, since a Vec may find no memory.
 ghost use Rattle.std.specs.Prelude.{◌≡◌};
 ghost use Rattle.protocol.specs.Words.{only};
-ghost use Rattle.step_requests.specs.Steps.{one_step, step_reply, stepping, steps};
+ghost use Rattle.step_requests.specs.Steps.{one_step, stepping, steps};
 
 use refusal::Refusal;
 use replies::Reply;
@@ -31,7 +31,7 @@ fn one_step(words: &[u8], variant: Variant) -> Option<Reply>
     let (n, words) = protocol_lists::read_next_list(words, &mut m)?;
     let [mu_2, p_1] = protocol::only(protocol_lists::read_next_fractions::<2>(words))?;
     let answer = stepped(variant, protocol_lists::kept(&m, n), mu_2, p_1);
-    Some(answer.map_or_else(Reply::Refused, reply))
+    Some(answer.map_or_else(Reply::Refused, Reply::Stepped))
 }
 
 // Of the shape of Variant's own step, but of lists, with their refusals.
@@ -41,14 +41,5 @@ fn stepped(variant: Variant, m: &[f64], mu_2: f64, p_1: f64) -> Result<Step, Ref
     match variant {
         Variant::FourMoments => iterate::iter_4(m, mu_2, p_1),
         Variant::FiveMoments => iterate::iter_5(m, mu_2, p_1),
-    }
-}
-
-fn reply(step: Step) -> Reply
-    ensures { result ≡ step_reply step }
-{
-    match step {
-        Step::Admitted(parameters) => Reply::Parameters(parameters),
-        Step::Inadmissible => Reply::Inadmissible,
     }
 }

@@ -12,12 +12,13 @@ use lib.Ieee.{Float}
 use lib.ListN.{drop, length, length-append, length-drop, length-map, length-take, take, take-append-drop}
 use lib.Seq.{drop-append-le, drop_at, length-take-le, take_at}
 use Rattle.std.specs.Prelude.{Result, Ok, Err}
+use Rattle.float.specs.Leaves.{as_f64}
 use Rattle.refusal.specs.Numbers.{Checked, unless_refused}
 use Rattle.refusal.specs.Rules.{first_refusal}
 use Rattle.refusal.specs.declared.Refusal.{Refusal}
 use Rattle.budget.specs.Budget.{BetSizeBudget, budget_sizes}
 use Rattle.bet_sizing.specs.declared.counts.Side.TheVariants.{Long, Short}
-use Rattle.bet_sizing.specs.Counts.{concurrent, concurrent_counts, whole}
+use Rattle.bet_sizing.specs.Counts.{concurrent, concurrent_counts}
 use Rattle.bet_sizing.specs.Refusals.{ConcurrentSides, spans_rules}
 use Rattle.bet_sizing.proofs.Refusing.{accepted, accepted_in, fits}
 use Rattle.replies.specs.declared.forms.Columns.TheVariants.{One, Two}
@@ -81,10 +82,10 @@ module _ (room from k : ℕ) (xs : List Float) {ss es : List ℤ} {ds : List Flo
       let shorts : List Float = concurrent_counts Short ss es ds in
       let front : long ≡ longs ++ drop (length ss) (take k xs) = rw a.0 at h.longs in
       let other : short ≡ shorts ++ drop (length ss) old = rw a.0 at h.shorts in
-      let copies : copied ≡ shorts = c ∙ ap (take n) other ∙ take_at shorts (drop (length ss) old) n (length-map ss (λ t. whole (concurrent Short t ss es ds)) ∙ a.1) in
+      let copies : copied ≡ shorts = c ∙ ap (take n) other ∙ take_at shorts (drop (length ss) old) n (length-map ss (λ t. as_f64 (concurrent Short t ss es ds)) ∙ a.1) in
       let first : List Float = longs ++ drop (length ss) (take half xs) in
       let ys : long ++ drop k xs ≡ first ++ drop half xs =
       rw front (put_back (length ss) k longs xs few (omega arith) ∙ sym (put_back (length ss) half longs xs (omega arith) (omega arith))) in
-      let lf : length first ≡ half = simp (length-append, length-drop, length-take) (omega (arith, length-map ss (λ t. whole (concurrent Long t ss es ds)))) in
+      let lf : length first ≡ half = simp (length-append, length-drop, length-take) (omega (arith, length-map ss (λ t. as_f64 (concurrent Long t ss es ds)))) in
       let rest : drop (half + n - half) (drop half xs) ≡ drop (length ss) (drop half xs) = ap (λ (j : ℕ). drop j (drop half xs)) (omega (arith, a.1)) in
       (rw (all, a.1), rw (all, ys, take_at first (drop half xs) half lf, drop_at first (drop half xs) half lf, rest, copies))
