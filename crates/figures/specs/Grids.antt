@@ -1,6 +1,6 @@
 -- Document 01's figures on epsilon, and two searches that find a row, one of them about the mean, computed through the definitions. The bits are the Rust's.
 use Rattle.std.specs.Prelude.{◌≡◌, refl, List, [], ◌∷◌, false, ℕ, Float}
-use Rattle.std.specs.Float.{binary64}
+use Rattle.std.specs.Float.{binary64, float_is_finite}
 use Rattle.std.specs.Float.Ieee.{round, of_int, of_bits, to_unsigned, add, mul, sub, div, neg, eq, lt, le}
 use Rattle.float.specs.Leaves.{abs_of, larger_of, as_f64}
 use Rattle.float.specs.Power.{power_of}

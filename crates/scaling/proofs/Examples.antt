@@ -9,6 +9,7 @@ use lib.Dec.{T}
 use lib.ListN.{get_or}
 use lib.Ieee.{Float, nan, binary64, fits, round, of_int, add, sub, mul, div, neg, eq, lt, le}
 use lib.Ieee.Fits.{and_l, and_r}
+use Rattle.std.specs.Float.{float_is_finite}
 use Rattle.float.specs.Leaves.{abs_of, as_f64}
 use Rattle.float.specs.Power.{power_of}
 use Rattle.float.specs.Root.{root}
@@ -119,9 +120,9 @@ shown : (m : M2N) (μ p : Float) (count : ℕ) (reason : Reason) (l : List ℤ) 
 shown m μ p count reason l e f h = record { ends = e; twins = all_asked m μ p f l h }
 
 pub on_four : Examples 1 (pos 200) (part 1 8) (half 3) (part 5 8)
-unfolding fits fair_walk walk_of step_for step_4 met_by abs_of sized sum_is_zero difference_is_zero product_is_zero quotient_is_zero power_of root round of_int add mul sub div neg eq lt le
+unfolding fits fair_walk walk_of step_for step_4 met_by abs_of sized sum_is_zero difference_is_zero product_is_zero quotient_is_zero power_of root round of_int add mul sub div neg eq lt le float_is_finite
 on_four = record { spent = shown _ _ _ _ _ _ refl tt tt; settled = shown _ _ _ _ _ _ refl tt tt; inadmissible = shown _ _ _ _ _ _ refl tt tt }
 
 pub on_five : Examples 2 (pos 150) (part 1 64) (half 5) (part 13 16)
-unfolding fits fair_walk walk_of step_for step_5 met_by abs_of sized sum_is_zero difference_is_zero product_is_zero quotient_is_zero power_of root round of_int add mul sub div neg eq lt le
+unfolding fits fair_walk walk_of step_for step_5 met_by abs_of sized sum_is_zero difference_is_zero product_is_zero quotient_is_zero power_of root round of_int add mul sub div neg eq lt le float_is_finite
 on_five = record { spent = shown _ _ _ _ _ _ refl tt tt; settled = shown _ _ _ _ _ _ refl tt tt; inadmissible = shown _ _ _ _ _ _ refl tt tt }
