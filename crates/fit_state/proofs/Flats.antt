@@ -3,11 +3,9 @@ use mathlib.Core.Path.{◌≡◌, refl, sym, ap, ◌∙◌}
 use mathlib.Core.List.{List, [], ◌∷◌, ◌++◌}
 use Prim.Native.Nat.{ℕ, zero, suc, ◌+◌, ◌*◌, ◌-◌, ◌≤◌, ◌<◌}
 use native.Mathlib.Omega.{arith}
-use native.Mathlib.Numerals.{add_six}
 use lib.ListN.{length, get_or, take, replicate, length-append, length-replicate}
-use lib.Seq.{take-append_seam, drop-append-add, get_or-take, take-suc, take-length}
+use lib.Seq.{take-append_seam, drop-append-add, drop-drop, get_or-take, take-suc, take-length}
 use lib.Ieee.{Float, nan}
-use Rattle.std.proofs.lemmas.List.{get_or-drop}
 use Rattle.std.specs.Simd.{first_chunks}
 use Rattle.float.specs.Constants.{nought}
 use Rattle.std.proofs.Common.{drop}
@@ -49,43 +47,38 @@ row_behind rows r h =
     ∙ rw (flat_snoc rows r))
 
 -- ---- the rows read back
-later : (r : FitResultRow) (l : List Float) (i j : ℕ) → i ≡ j + 6 → get_or (six r ++ l) i nan ≡ get_or l j nan
-later r l i j e = rw (e, add_six j)
-
 next_row : (r : FitResultRow) (l : List Float) (k : ℕ) → row_at (six r ++ l) (suc k) ≡ row_at l k
-next_row r l k =
-    let at = 6 * suc k in
-    let on = 6 * k in
-    rw (later r l at on (omega arith), later r l (at + 1) (on + 1) (omega arith), later r l (at + 2) (on + 2) (omega arith), later r l (at + 3) (on + 3) (omega arith), later r l (at + 4) (on + 4) (omega arith), later r l (at + 5) (on + 5) (omega arith))
+next_row r l k = ap (λ n. row_from (drop n (six r ++ l))) (next k)
+  where
+    next : (k : ℕ) → 6 * suc k ≡ suc (suc (suc (suc (suc (suc (6 * k))))))
+    next k = omega arith
 
-row_of : (rows : List FitResultRow) (q : List Float) (k : ℕ) (none : FitResultRow) → k < length rows → row_at (flat_of rows ++ q) k ≡ get_or rows k none
+row_back : (rows : List FitResultRow) (q : List Float) (k : ℕ) (none : FitResultRow) → k < length rows → row_at (flat_of rows ++ q) k ≡ get_or rows k none
 unfolding flat_of
-row_of [] q k none h = absurd (omega (arith, h))
-row_of (r ∷ rows) q zero none h = refl
-row_of (r ∷ rows) q (suc k) none h = next_row r (flat_of rows ++ q) k ∙ row_of rows q k none (omega (arith, h))
+row_back [] q k none h = absurd (omega (arith, h))
+row_back (r ∷ rows) q zero none h = refl
+row_back (r ∷ rows) q (suc k) none h = next_row r (flat_of rows ++ q) k ∙ row_back rows q k none (omega (arith, h))
 
-rows_of : (rows : List FitResultRow) (q : List Float) (k : ℕ) → k ≤ length rows → rows_at (flat_of rows ++ q) k ≡ take k rows
+first_back : (rows : List FitResultRow) (q : List Float) (k : ℕ) → k ≤ length rows → rows_at (flat_of rows ++ q) k ≡ take k rows
 unfolding rows_at
-rows_of rows q zero h = refl
-rows_of rows q (suc k) h =
+first_back rows q zero h = refl
+first_back rows q (suc k) h =
     let none = row_at (flat_of rows ++ q) k in
-    rw (rows_of rows q k (omega (arith, h)), row_of rows q k none h) (sym (take-suc rows k none h))
+    rw (first_back rows q k (omega (arith, h)), row_back rows q k none h) (sym (take-suc rows k none h))
 
 pub rows_back : (rows : List FitResultRow) → rows_at (flat_in64 rows) (length rows) ≡ rows
 unfolding flat_in64
-rows_back rows = rows_of rows (replicate (384 - length (flat_of rows)) nought) (length rows) (omega arith) ∙ take-length rows
+rows_back rows = first_back rows (replicate (384 - length (flat_of rows)) nought) (length rows) (omega arith) ∙ take-length rows
 
 -- ---- flat numbers, six at a time
 six_first : (l : List Float) → row_from (take 6 l) ≡ row_at l 0
 six_first l = rw (get_or-take 6 l 0 nan (omega arith), get_or-take 6 l 1 nan (omega arith), get_or-take 6 l 2 nan (omega arith), get_or-take 6 l 3 nan (omega arith), get_or-take 6 l 4 nan (omega arith), get_or-take 6 l 5 nan (omega arith)) refl
 
-six_on : (l : List Float) (i j : ℕ) → i ≡ 6 + j → get_or (drop 6 l) j nan ≡ get_or l i nan
-six_on l i j h = get_or-drop 6 l j nan ∙ ap (λ k. get_or l k nan) (sym h)
-
 row_later : (l : List Float) (i : ℕ) → row_at (drop 6 l) i ≡ row_at l (suc i)
-row_later l i =
-    let at = 6 * suc i in
-    rw (six_on l at (6 * i) (omega arith), six_on l (at + 1) (6 * i + 1) (omega arith), six_on l (at + 2) (6 * i + 2) (omega arith), six_on l (at + 3) (6 * i + 3) (omega arith), six_on l (at + 4) (6 * i + 4) (omega arith), six_on l (at + 5) (6 * i + 5) (omega arith)) refl
+row_later l i = ap row_from (drop-drop (6 * i) 6 l ∙ ap (λ n. drop n l) (six_on i))
+  where
+    six_on : (i : ℕ) → 6 + 6 * i ≡ 6 * suc i
+    six_on i = omega arith
 
 pub six_at : (l : List Float) (k i : ℕ) (none : List Float) → i < k → row_from (get_or (first_chunks 6 k l) i none) ≡ row_at l i
 six_at l zero i none h = absurd (omega (arith, h))

@@ -1,5 +1,5 @@
 -- A row of six numbers, what it is made of, and rows as flat numbers. Definitions only.
-use Rattle.std.specs.Prelude.{ℕ, zero, suc, ◌+◌, ◌*◌, ◌-◌, ◌/◌, cond, ltb, length, replicate, List, [], ◌∷◌, ◌++◌, get_or, Float, Option, None, Some}
+use Rattle.std.specs.Prelude.{ℕ, zero, suc, ◌*◌, ◌-◌, ◌/◌, cond, ltb, length, drop, replicate, List, [], ◌∷◌, ◌++◌, get_or, Float, Option, None, Some}
 use Rattle.std.proofs.lemmas.List.Edits.{sets}
 use Rattle.std.specs.Float.{nan}
 use Rattle.float.specs.Constants.{nought}
@@ -32,9 +32,7 @@ row_from l = record { mu_1 = get_or l 0 nan; mu_2 = get_or l 1 nan; sigma_1 = ge
 -- ---- rows as flat numbers, six each
 -- row i of flat numbers
 abbrev pub row_at : List Float → ℕ → FitResultRow
-row_at numbers i =
-    let at = 6 * i in
-    record { mu_1 = get_or numbers at nan; mu_2 = get_or numbers (at + 1) nan; sigma_1 = get_or numbers (at + 2) nan; sigma_2 = get_or numbers (at + 3) nan; p_1 = get_or numbers (at + 4) nan; error = get_or numbers (at + 5) nan }
+row_at numbers i = row_from (drop (6 * i) numbers)
 
 -- the first n rows
 unfoldable pub rows_at : List Float → ℕ → List FitResultRow
