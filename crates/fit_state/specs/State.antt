@@ -1,8 +1,10 @@
--- The state of a fit, and the part of it that a walk changes. Definitions only.
-use Rattle.std.specs.Prelude.{replicate}
+-- The state of a fit, the part of it that a walk changes, and what a call leaves of it. Definitions only.
+use Rattle.std.specs.Prelude.{replicate, Ok, Err}
 use Rattle.float.specs.Constants.{nought}
-use Rattle.fit_state.specs.declared.M2N.{M2N}
+use Rattle.refusal.specs.Numbers.{Checked}
+use Rattle.fit_state.specs.declared.After.{After}
 use Rattle.fit_state.specs.declared.Fit.{Fit}
+use Rattle.fit_state.specs.declared.M2N.{M2N}
 
 -- the fit in a state
 abbrev pub fit_part : M2N → Fit
@@ -26,3 +28,9 @@ state_with f = record {
   parameters = f.parameters;
   error = f.error;
 }
+
+module _ {A : Type 0} where
+  -- what a call leaves: another state and its answer, or the state as it was and why it is refused
+  abbrev pub answered : Checked → M2N → M2N → A → After A
+  answered (Ok u) m new x = record { state = new; outcome = Ok x }
+  answered (Err e) m new x = record { state = m; outcome = Err e }

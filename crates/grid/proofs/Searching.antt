@@ -5,13 +5,14 @@ use Prim.Native.Nat.{ℕ, ◌≤◌, min}
 use native.Mathlib.Omega.{arith}
 use lib.ListN.{length, take}
 use lib.Ieee.{Float}
+use Rattle.fit_state.specs.State.{answered}
 use Rattle.fit_state.specs.declared.M2N.{M2N}
 use Rattle.fit_refusals.specs.Refusals.{rows_of, grid_refusal}
 use Rattle.grid_rows.proofs.First.{first_enough}
 use Rattle.grid_rows.specs.Rows.{search_to}
 use Rattle.grid_rows.specs.declared.Search.{Search}
 use Rattle.fit_state.specs.Search.{begun, centred_state, moved_state, deviation_of}
-use Rattle.grid.specs.Search.{in_force, moved_best, found_by, plain_fit, centred_fit, fit_of, answered, single_fit, Served}
+use Rattle.grid.specs.Search.{in_force, moved_best, found_by, plain_fit, centred_fit, fit_of, single_fit, Served}
 use Rattle.fit_state.specs.declared.row.FitResultRow.{FitResultRow}
 use Rattle.refusal.specs.declared.Refusal.{Refusal}
 use Rattle.std.proofs.Common.{Option, Ok, Err}
@@ -38,9 +39,10 @@ five_given m c h = omega (arith, ap (λ x. x.len) h)
 module _ (m : M2N) (e : Option Float) (weights : List Float) (epsilon : Float) where
   pub refused : (refusal : Refusal) → epsilon ≡ in_force m e → Err refusal ≡ grid_refusal m epsilon 1 weights → record { state = m; outcome = Err refusal } ≡ single_fit m e weights
   unfolding single_fit
-  refused refusal he hr = ap (λ x. answered x m (fit_of m (in_force m e) weights)) (hr ∙ ap (λ x. grid_refusal m x 1 weights) he)
+  refused refusal he hr = let f = fit_of m (in_force m e) weights in ap (λ x. answered x m f.state f.best) (hr ∙ ap (λ x. grid_refusal m x 1 weights) he)
 
   pub ended : (s : Searched) → epsilon ≡ in_force m e → Ok tt ≡ grid_refusal m epsilon 1 weights → s ≡ fit_of m epsilon weights → record { state = s.state; outcome = Ok s.best } ≡ single_fit m e weights
   unfolding single_fit
   ended s he hr hs =
-      ap (answered (Ok tt) m) (hs ∙ ap (λ x. fit_of m x weights) he) ∙ ap (λ x. answered x m (fit_of m (in_force m e) weights)) (hr ∙ ap (λ x. grid_refusal m x 1 weights) he)
+      let f = fit_of m (in_force m e) weights in
+      ap (λ x. answered (Ok tt) m x.state x.best) (hs ∙ ap (λ x. fit_of m x weights) he) ∙ ap (λ x. answered x m f.state f.best) (hr ∙ ap (λ x. grid_refusal m x 1 weights) he)

@@ -1,5 +1,5 @@
 -- One search over the grid (the Rust's single_fit_loop and centred_fit_loop). Definitions only.
-use Rattle.std.specs.Prelude.{List, Bool, ◌&&◌, not, cond, ◌≤◌, eqb, length, get_or, Float, Option, None, Some, Ok, Err}
+use Rattle.std.specs.Prelude.{List, Bool, ◌&&◌, not, cond, ◌≤◌, eqb, length, get_or, Float, Option, None, Some}
 use Rattle.std.specs.Option.{unwrap_or}
 use Rattle.std.specs.Float.{nan}
 use Rattle.std.specs.Float.Ieee.{eq}
@@ -9,10 +9,10 @@ use Rattle.fit_state.specs.declared.M2N.{M2N}
 use Rattle.fit_refusals.specs.Refusals.{rows_of, grid_refusal}
 use Rattle.grid_rows.specs.Rows.{search_to}
 use Rattle.grid_rows.specs.declared.Search.{Search}
+use Rattle.fit_state.specs.State.{answered}
 use Rattle.fit_state.specs.Search.{begun, centred_state, deviation_of, moved_row, moved_state}
 use Rattle.grid.specs.declared.search.Searched.{Searched}
 use Rattle.fit_state.specs.declared.row.FitResultRow.{FitResultRow}
-use Rattle.refusal.specs.Numbers.{Checked}
 
 -- the epsilon in force: one given for this search, or the state's own
 abbrev pub in_force : M2N → Option Float → Float
@@ -51,13 +51,9 @@ fit_of m epsilon weights = cond (is_centred m) (centred_fit m epsilon weights) (
 abbrev pub Fitted : Type 0
 Fitted = After (Option FitResultRow)
 
-abbrev pub answered : Checked → M2N → Searched → Fitted
-answered (Ok u) m s = record { state = s.state; outcome = Ok s.best }
-answered (Err e) m s = record { state = m; outcome = Err e }
-
 unfoldable pub single_fit : M2N → Option Float → List Float → Fitted
 unfolding grid_refusal fit_of
-single_fit m e weights = answered (grid_refusal m (in_force m e) 1 weights) m (fit_of m (in_force m e) weights)
+single_fit m e weights = let s = fit_of m (in_force m e) weights in answered (grid_refusal m (in_force m e) 1 weights) m s.state s.best
 
 -- what a search that is not refused rests on
 abbrev pub Served : M2N → Float → List Float → Type 0

@@ -10,20 +10,20 @@ use lib.Ieee.{Float, nan, lt}
 use Rattle.std.proofs.Common.{Some}
 use Rattle.float.specs.Constants.{nought}
 use Rattle.float.proofs.Order.{lt_irrefl}
-use Rattle.moments.specs.Lists.{listed}
+use Rattle.moments.specs.Lists.{five_of, listed}
 use Rattle.moments.specs.declared.Five.{Five}
 use Rattle.step.specs.Steps.{sigma2_squared}
 use Rattle.walk.proofs.Stays.{same_moments, stays}
 use Rattle.walk.proofs.Trails.{five_enough}
-use Rattle.walk.specs.Walk.{five_of, walk_of}
+use Rattle.walk.specs.Walk.{walk_of}
 use Rattle.fit_state.specs.declared.M2N.{M2N}
 use Rattle.grid_rows.specs.Rows.{mean_of, looked, search_to}
-use Rattle.fit_state.specs.Rows.{row_of}
+use Rattle.fit_state.specs.Rows.{kept_row}
 use Rattle.grid_rows.specs.declared.Search.{Search}
 
 -- what `looked` chooses by its test
 abbrev seen : Bool → Search → M2N → Search
-seen b s x = cond b (record { state = x; err_min = x.error; best = Some (row_of x.parameters x.error) }) (record { state = x; err_min = s.err_min; best = s.best })
+seen b s x = cond b (record { state = x; err_min = x.error; best = Some (kept_row x) }) (record { state = x; err_min = s.err_min; best = s.best })
 
 seen_state : (b : Bool) (s : Search) (x : M2N) → (seen b s x).state ≡ x
 seen_state true s x = refl

@@ -12,17 +12,17 @@ use lib.Ieee.Fits.{and_l, and_r}
 use Rattle.float.specs.Scale.{scale}
 use Rattle.step.specs.declared.Step.{Step}
 use Rattle.step.specs.declared.Step.TheVariants.{Admitted, Inadmissible}
-use Rattle.scaling.specs.Scaling.{Twins, fair_step, fair_from, fair_walk, walk_trail, scale_params, scale_step, ReadOff, Compared, WalksScale}
+use Rattle.scaling.specs.Scaling.{Twins, fair_step, fair_from, fair_walk, scale_params, scale_step, ReadOff, Compared, WalksScale}
 use Rattle.walk.specs.Trail.{settled, step_for, trail_from}
-use Rattle.walk.specs.Walk.{Walked, needed_by, walk_refusal, stopped, stopped_at, reason_of, trail_of, answered, walk_of, keep_all}
+use Rattle.walk.specs.Walk.{Walked, needed_by, walk_refusal, walk_trail, stopped, stopped_at, reason_of, trail_of, walk_of, keep_all}
+use Rattle.fit_state.specs.State.{answered}
 use Rattle.fit_state.specs.declared.M2N.{M2N}
 use Rattle.walk.specs.declared.Ended.{Ended}
 use Rattle.walk.specs.declared.Reason.{Reason}
 use Rattle.walk.specs.declared.Reason.TheVariants.{Spent}
 use Rattle.refusal.specs.Numbers.{Checked}
-use Rattle.refusal.specs.declared.Refusal.{Refusal}
 use Rattle.std.specs.List.{last_or}
-use Rattle.std.specs.Prelude.{Option, Some, None, Result, Ok, Err}
+use Rattle.std.specs.Prelude.{Option, Some, None, Ok, Err}
 use Rattle.std.specs.Result.{is_ok}
 use Rattle.walk.proofs.Trails.{enough}
 use Rattle.scaling.proofs.StepScale.{handed, Alike, Moments, step_scale}
@@ -86,11 +86,11 @@ last_map s o o' (Admitted r ∷ t) h = last_map s (Some (Admitted r)) (Some (Adm
 stopped_map : (s : ℤ) (t : List Step) → stopped (map (scale_step s) t) ≡ stopped t
 stopped_map s t = last_map s None None t refl
 
-abbrev ended : ℕ → List Step → Result Ended Refusal
-ended limit t = Ok (record { count = length t; reason = reason_of limit t })
+abbrev ended : ℕ → List Step → Ended
+ended limit t = record { count = length t; reason = reason_of limit t }
 
 ended_map : (s : ℤ) (limit : ℕ) (t : List Step) → ended limit (map (scale_step s) t) ≡ ended limit t
-ended_map s limit t = ap₂ (λ (n : ℕ) (r : Reason). Ok (record { count = n; reason = cond (eqb n limit) Spent r })) (length-map t (scale_step s)) (stopped_map s t)
+ended_map s limit t = ap₂ (λ (n : ℕ) (r : Reason). record { count = n; reason = cond (eqb n limit) Spent r }) (length-map t (scale_step s)) (stopped_map s t)
 
 -- ---- the refusals
 -- they ask only of the variant, the number of moments and the weight
@@ -121,7 +121,7 @@ read_off : (m : M2N) (μ p : Float) → ReadOff m.max_iter (walk_trail m μ p) (
 unfolding walk_trail walk_of
 read_off m μ p = go (walk_refusal m p)
   where
-    go : (r : Checked) → ReadOff m.max_iter (cond (is_ok r) (trail_of m μ p) []) (answered r m (keep_all m (trail_of m μ p)) (trail_of m μ p))
+    go : (r : Checked) → ReadOff m.max_iter (cond (is_ok r) (trail_of m μ p) []) (answered r m (keep_all m (trail_of m μ p)) (ended m.max_iter (trail_of m μ p)))
     go (Ok u) = record { count = λ e h. cc; reason = λ e h. cc }
     go (Err f) = record { count = λ e h. cc; reason = λ e h. cc }
 
@@ -138,7 +138,7 @@ compared s m m' μ p t d d' g h =
     }
   where
     answer : M2N → Float → Checked → Walked
-    answer m μ r = answered r m (keep_all m (trail_of m μ p)) (trail_of m μ p)
+    answer m μ r = answered r m (keep_all m (trail_of m μ p)) (ended m.max_iter (trail_of m μ p))
 
     same : walk_refusal m' p ≡ walk_refusal m p
     same = refusals m m' p t.variants t.numbers
@@ -147,7 +147,7 @@ compared s m m' μ p t d d' g h =
     alike e = trails_scale s m m' μ p t d d' (enough m p e) (subst (λ (r : Checked). T (cond (is_ok r) (fair_trail m μ p) true)) e g) (subst (λ (r : Checked). T (cond (is_ok r) (fair_trail m' (scale s μ) p) true)) (same ∙ e) h)
 
     ends : (r : Checked) → (r ≡ Ok tt → trail_of m' (scale s μ) p ≡ map (scale_step s) (trail_of m μ p)) → (answer m' (scale s μ) r).outcome ≡ (answer m μ r).outcome
-    ends (Ok u) e = ap₂ ended t.limits (e refl) ∙ ended_map s m.max_iter (trail_of m μ p)
+    ends (Ok u) e = ap (λ (x : Ended). Ok x) (ap₂ ended t.limits (e refl) ∙ ended_map s m.max_iter (trail_of m μ p))
     ends (Err f) e = refl
 
     lists : (r : Checked) → (r ≡ Ok tt → trail_of m' (scale s μ) p ≡ map (scale_step s) (trail_of m μ p)) → cond (is_ok r) (trail_of m' (scale s μ) p) [] ≡ map (scale_step s) (cond (is_ok r) (trail_of m μ p) [])

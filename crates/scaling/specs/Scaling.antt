@@ -14,7 +14,7 @@ use Rattle.step.specs.Steps.{iter_4, iter_5, first_four, first_five}
 use Rattle.step.specs.declared.Step.{Step}
 use Rattle.step.specs.declared.Step.TheVariants.{Admitted, Inadmissible}
 use Rattle.walk.specs.Trail.{settled, step_for}
-use Rattle.walk.specs.Walk.{Walked, trail_of, walk_refusal, reason_of}
+use Rattle.walk.specs.Walk.{Walked, walk_refusal, walk_trail, reason_of}
 use Rattle.fit_state.specs.declared.M2N.{M2N}
 use Rattle.walk.specs.declared.Ended.{Ended}
 
@@ -50,10 +50,6 @@ unfolding fair_from fair_step
 fair_walk m μ p =
     cond (is_ok (walk_refusal m p)) (fair_from (fair_step m.variant m.moments) (step_for m.variant m.moments) m.epsilon m.max_iter μ p) true
 
--- the trail that a walk's arguments have, "written out in document 01"
-unfoldable pub walk_trail : M2N → Float → Float → List Step
-walk_trail m μ p = cond (is_ok (walk_refusal m p)) (trail_of m μ p) []
-
 -- ---- how the two compare
 -- "the weights are the same bit for bit, while both means and both deviations of the second are exactly 2^s times the first's"
 abbrev pub scale_params : ℤ → Params → Params
@@ -75,7 +71,7 @@ pub record Compared (s : ℤ) (m m' : M2N) (μ μ' p : Float) (w w' : Walked) : 
   -- "each its own trail's length", the reason "read as document 01 reads it"
   pub first : ReadOff m.max_iter (walk_trail m μ p) w
   pub second : ReadOff m'.max_iter (walk_trail m' μ' p) w'
-  -- "their trails agree at every step"
+  -- "their trails, written out in document 01, agree at every step"
   pub trails : walk_trail m' μ' p ≡ map (scale_step s) (walk_trail m μ p)
 
 -- ---- the demand, of what two walks return: w from m and μ, w' from m' and μ', both from the weight p

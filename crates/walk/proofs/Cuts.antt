@@ -10,10 +10,11 @@ use Rattle.refusal.specs.Numbers.{Checked}
 use Rattle.std.specs.Prelude.{None, Ok, Err}
 use Rattle.step.specs.declared.Step.{Step}
 use Rattle.step.specs.declared.Step.TheVariants.{Admitted, Inadmissible}
-use Rattle.fit_state.specs.State.{with_fit}
+use Rattle.fit_state.specs.State.{answered, with_fit}
 use Rattle.walk.specs.Pieces.{FitNeverSteers, stands_after, goes_on, TrailsAdd}
 use Rattle.walk.specs.Trail.{Arguments, settled, step_for, trail, trail_from}
-use Rattle.walk.specs.Walk.{keep_all, trail_of, walk_refusal, answered, walk_of}
+use Rattle.walk.specs.Walk.{keep_all, trail_of, walk_refusal, walk_trail, walk_of}
+use Rattle.walk.specs.declared.Ended.{Ended}
 use Rattle.walk.proofs.Visits.{same_visits}
 
 pub trails_add : TrailsAdd
@@ -42,9 +43,9 @@ trails_add (suc n) k a =
     by (Admitted r) rest = settling r (settled a.epsilon a.weight r.p_1) (trail_from step a.epsilon (n + k) r.mu_2 r.p_1) (trail_from step a.epsilon n r.mu_2 r.p_1) (rest r)
 
 pub fit_never_steers : FitNeverSteers
-unfolding trail_of walk_of walk_refusal
-fit_never_steers m f μ p = (refl, same_visits m f (trail_of m μ p), go (walk_refusal m p))
+unfolding trail_of walk_of walk_refusal walk_trail
+fit_never_steers m f μ p = (refl, same_visits m f (walk_trail m μ p), go (walk_refusal m p) _)
   where
-    go : (c : Checked) → (answered c (with_fit m f) (keep_all (with_fit m f) (trail_of m μ p)) (trail_of m μ p)).outcome ≡ (answered c m (keep_all m (trail_of m μ p)) (trail_of m μ p)).outcome
-    go (Ok u) = refl
-    go (Err e) = refl
+    go : (c : Checked) (x : Ended) → (answered c (with_fit m f) (keep_all (with_fit m f) (trail_of m μ p)) x).outcome ≡ (answered c m (keep_all m (trail_of m μ p)) x).outcome
+    go (Ok u) x = refl
+    go (Err e) x = refl

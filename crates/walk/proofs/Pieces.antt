@@ -64,11 +64,11 @@ unfolding keep_of
 after_state w Inadmissible = refl
 after_state w (Admitted r) = refl
 
-pub step_count : (w : Walking) → (step_of w).count ≡ w.count + 1
+step_count : (w : Walking) → (step_of w).count ≡ w.count + 1
 unfolding step_of
 step_count w = after_count w (step_for w.state.variant w.state.moments w.mu_2 w.p_1)
 
-pub step_only_fit : (w : Walking) → (step_of w).state ≡ with_fit w.state (fit_part (step_of w).state)
+step_only_fit : (w : Walking) → (step_of w).state ≡ with_fit w.state (fit_part (step_of w).state)
 unfolding step_of
 step_only_fit w =
     let s = step_for w.state.variant w.state.moments w.mu_2 w.p_1 in

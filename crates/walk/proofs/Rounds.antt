@@ -18,7 +18,7 @@ use Rattle.moments.specs.declared.Params.{Params}
 use Rattle.step.specs.declared.Step.TheVariants.{Admitted}
 use Rattle.walk.specs.Parts.{fit_after, visit_at, Turned, stays, looks, rounds_on}
 use Rattle.walk.specs.Trail.{settled, step_for}
-use Rattle.walk.specs.Walk.{Visit, best_of, fit_with, smaller}
+use Rattle.walk.specs.Walk.{Visit, best_of, fit_keeping, smaller}
 use Rattle.fit_state.specs.declared.Fit.{Fit}
 use Rattle.fit_state.specs.declared.M2N.{M2N}
 use Rattle.walk.specs.declared.Seen.{Seen}
@@ -38,7 +38,7 @@ last_moments n (r ∷ t) = last_moments (get_moments r) t
 abbrev errors : M2N → List Params → List Visit
 errors m t = map (visit_at m.len (five_of m.moments)) t
 
-fit_over_is : (m : M2N) (f : Fit) (t : List Params) → fit_over m f t ≡ fit_with (last_moments f.new_moments t) (fold smaller (best_of f) (errors m t))
+fit_over_is : (m : M2N) (f : Fit) (t : List Params) → fit_over m f t ≡ fit_keeping (last_moments f.new_moments t) (fold smaller (best_of f) (errors m t))
 unfolding fit_after
 fit_over_is m f [] = refl
 fit_over_is m f (r ∷ t) = fit_over_is m (fit_next m f r) t
@@ -51,8 +51,8 @@ last_again n (r ∷ t) = refl
 pub round_again : (m : M2N) (f : Fit) (t : List Params) → fit_over m (fit_over m f t) t ≡ fit_over m f t
 round_again m f t =
     fit_over_is m (fit_over m f t) t
-    ∙ ap (λ g. fit_with (last_moments g.new_moments t) (fold smaller (best_of g) (errors m t))) (fit_over_is m f t)
-    ∙ ap₂ fit_with (last_again f.new_moments t) (smallest_again (best_of f) (errors m t))
+    ∙ ap (λ g. fit_keeping (last_moments g.new_moments t) (fold smaller (best_of g) (errors m t))) (fit_over_is m f t)
+    ∙ ap₂ fit_keeping (last_again f.new_moments t) (smallest_again (best_of f) (errors m t))
     ∙ sym (fit_over_is m f t)
 
 -- ---- steps that lead from a pair to another: admitted, and none settled

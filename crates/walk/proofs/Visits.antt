@@ -8,7 +8,7 @@ use Rattle.std.specs.List.{fold}
 use Rattle.moments.specs.Mixture.{get_moments}
 use Rattle.step.specs.declared.Step.{Step}
 use Rattle.step.specs.declared.Step.TheVariants.{Admitted, Inadmissible}
-use Rattle.walk.specs.Walk.{best_of, fit_with, Visit, keep_of, keep_all, smaller}
+use Rattle.walk.specs.Walk.{best_of, fit_keeping, Visit, keep_of, keep_all, smaller, visit_of}
 use Rattle.fit_state.specs.State.{fit_part, with_fit}
 use Rattle.fit_state.specs.declared.Fit.{Fit}
 use Rattle.walk.specs.Visits.{visits, NoneBelow, KeepsTheSmallest, KeepsTheLeast}
@@ -56,7 +56,7 @@ over_fits : (m : M2N) (f : Fit) (t : List Step) → best_of (fit_part (keep_all 
 unfolding keep_all keep_of error_of
 over_fits m f [] = refl
 over_fits m f (Inadmissible ∷ t) = over_fits m f t
-over_fits m f (Admitted r ∷ t) = let n = get_moments r in over_fits m (fit_with n (smaller (best_of f) (record { parameters = r; error = error_of m n }))) t
+over_fits m f (Admitted r ∷ t) = over_fits m (fit_keeping (get_moments r) (smaller (best_of f) (visit_of m r))) t
 
 pub keeps_the_smallest : KeepsTheSmallest
 keeps_the_smallest m t = over_fits m (fit_part m) t
@@ -68,4 +68,4 @@ pub same_visits : (m : M2N) (f : Fit) (t : List Step) → visits (with_fit m f) 
 unfolding error_of
 same_visits m f [] = refl
 same_visits m f (Inadmissible ∷ t) = same_visits m f t
-same_visits m f (Admitted r ∷ t) = ap (λ l. record { parameters = r; error = error_of m (get_moments r) } ∷ l) (same_visits m f t)
+same_visits m f (Admitted r ∷ t) = ap (λ l. visit_of m r ∷ l) (same_visits m f t)

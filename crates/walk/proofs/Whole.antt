@@ -8,7 +8,8 @@ use borrow.Author.Tests.{eq-eqb}
 use lib.Ieee.{Float}
 use lib.ListN.{length}
 use Rattle.moments.specs.declared.Params.{Params}
-use Rattle.refusal.specs.Numbers.{Checked, unless_refused}
+use Rattle.refusal.proofs.Refusing.{accepted, refused}
+use Rattle.refusal.specs.declared.Refusal.{Refusal}
 use Rattle.std.specs.List.{last_or}
 use Rattle.std.specs.Prelude.{Option, Some, None, Ok, Err}
 use Rattle.step.specs.declared.Step.{Step}
@@ -16,9 +17,9 @@ use Rattle.step.specs.declared.Step.TheVariants.{Admitted, Inadmissible}
 use Rattle.walk.specs.Machine.{at_start, begun, outcome_of}
 use Rattle.walk.specs.Parts.{ended_after, steps_on}
 use Rattle.fit_state.specs.State.{fit_part, with_fit}
-use Rattle.walk.specs.Pieces.{in_pieces, WholeInPieces}
+use Rattle.walk.specs.Pieces.{WholeInPieces}
 use Rattle.walk.specs.Trail.{settled, step_for, trail_from}
-use Rattle.walk.specs.Walk.{Walked, keep_of, keep_all, stopped, stopped_at, trail_of, shape_refusal, walk_refusal, answered, walk_of}
+use Rattle.walk.specs.Walk.{Walked, keep_of, keep_all, stopped, stopped_at, trail_of, shape_refusal, walk_refusal, walk_of}
 use Rattle.fit_state.specs.declared.Fit.{Fit}
 use Rattle.fit_state.specs.declared.M2N.{M2N}
 use Rattle.walk.specs.declared.Reason.{Reason}
@@ -87,13 +88,16 @@ module _ (m : M2N) (μ₀ p₀ : Float) (shape : shape_refusal m ≡ Ok tt) wher
           ∙ answers f (k + 1) μ p (Some reason.Inadmissible) ∙ ap (ends (with_fit m f) k o) (sym (out step m.epsilon n μ p e))
       by (Admitted r) e rest = admitted r (settled m.epsilon p r.p_1) e refl rest ∙ ap (ends (with_fit m f) k o) (sym (on step m.epsilon n μ p r e))
 
-pub whole : WholeInPieces
+pub whole_in_pieces : WholeInPieces
 unfolding walk_of begun trail_of
-whole m μ p = go (walk_refusal m p) (shape_allowed m p)
-  where
-    go : (r : Checked) → (r ≡ Ok tt → shape_refusal m ≡ Ok tt) → answered r m (keep_all m (trail_of m μ p)) (trail_of m μ p) ≡ in_pieces m (unless_refused r (at_start m μ p))
-    go (Ok u) h =
-        sym (ap outcome_of (begins (at_start m μ p) m.max_iter refl)
-        ∙ from m μ p (h refl) m.max_iter (fit_part m) 0 μ p None (omega arith)
-        ∙ ap (λ n. record { state = keep_all m (trail_of m μ p); outcome = Ok (ended_after n m.max_iter (stopped (trail_of m μ p))) }) (omega (arith, counted_adds 0 (trail_of m μ p))))
-    go (Err e) h = refl
+whole_in_pieces m μ p w h =
+    let a = accepted (walk_refusal m p) (at_start m μ p) w (sym h) in
+    let t = trail_of m μ p in
+    rw (← a.0, a.1)
+    (sym (ap outcome_of (begins (at_start m μ p) m.max_iter refl)
+    ∙ from m μ p (shape_allowed m p (sym a.0)) m.max_iter (fit_part m) 0 μ p None (omega arith)
+    ∙ ap (λ n. record { state = keep_all m t; outcome = Ok (ended_after n m.max_iter (stopped t)) }) (omega (arith, counted_adds 0 t))))
+
+pub not_begun : (m : M2N) (μ p : Float) (e : Refusal) → begun m μ p ≡ Err e → walk_of m μ p ≡ record { state = m; outcome = Err e }
+unfolding walk_of begun
+not_begun m μ p e h = rw (sym (refused (walk_refusal m p) (at_start m μ p) e (sym h)))

@@ -17,7 +17,7 @@ use Rattle.walk.specs.declared.Walking.{Walking}
 abbrev pub at_start : M2N → Float → Float → Walking
 at_start m μ p = record { state = m; mu_2 = μ; p_1 = p; count = 0; stopped = None }
 
--- what a walk that is not refused begins with
+-- a walk begun, or why it is refused
 unfoldable pub begun : M2N → Float → Float → Result Walking Refusal
 begun m μ p = unless_refused (walk_refusal m p) (at_start m μ p)
 
@@ -40,7 +40,7 @@ step_of w = after w (step_for w.state.variant w.state.moments w.mu_2 w.p_1)
 abbrev pub at_end : Walking → Bool
 at_end w = is_some w.stopped || leb w.state.max_iter w.count
 
--- and so is over what has a state that is refused for its variant or its number of moments: no walk begins with one
+-- A walk whose state is refused for its variant or its number of moments is over too; no walk begins with such a state.
 unfoldable pub over : Walking → Bool
 over w = is_err (shape_refusal w.state) || at_end w
 
@@ -50,6 +50,6 @@ unfolding over step_of
 advanced zero w = w
 advanced (suc n) w = cond (over w) w (advanced n (step_of w))
 
--- what a walk that is over answers; of one that is not, as if its limit were reached
+-- What a walk that is over answers. One that is not over answers as if its limit were reached, and one whose state is refused answers its refusal.
 unfoldable pub outcome_of : Walking → Walked
 outcome_of w = record { state = w.state; outcome = unless_refused (shape_refusal w.state) (ended_after w.count w.state.max_iter (unwrap_or w.stopped Spent)) }

@@ -7,7 +7,7 @@ use Rattle.moments.specs.declared.Params.{Params}
 use Rattle.refusal.specs.Numbers.{unless_refused}
 use Rattle.refusal.specs.declared.Refusal.{Refusal}
 use Rattle.walk.specs.Variants.{variant_at}
-use Rattle.walk.specs.Walk.{Visit, best_of, fit_with, reason_at, shape_refusal, smaller}
+use Rattle.walk.specs.Walk.{Visit, best_of, fit_keeping, reason_at, shape_refusal, smaller}
 use Rattle.fit_state.specs.Errors.{squares}
 use Rattle.fit_state.specs.State.{with_fit}
 use Rattle.fit_state.specs.declared.M2N.{M2N}
@@ -26,7 +26,7 @@ visit_at len a r = record { parameters = r; error = squares (listed a) (listed (
 -- the fit after an admitted iterate
 unfoldable pub fit_after : ℕ → Five → Fit → Params → Fit
 unfolding squares
-fit_after len a f r = fit_with (get_moments r) (smaller (best_of f) (visit_at len a r))
+fit_after len a f r = fit_keeping (get_moments r) (smaller (best_of f) (visit_at len a r))
 
 -- the state's variant, unless its walk is refused for the state
 abbrev pub shape_variant : M2N → Result Variant Refusal

@@ -1,12 +1,11 @@
 -- What holds of a walk in pieces, and of a trail in pieces. Statements, and how a trail goes on; `Pieces.antt`, `Whole.antt` and `Cuts.antt` of proofs/ prove them.
-use Rattle.std.specs.Prelude.{◌≡◌, List, [], ◌∷◌, ◌++◌, true, false, cond, ℕ, ◌+◌, ◌≤◌, Float, Option, Some, None, Result, Ok, Err}
-use Rattle.refusal.specs.declared.Refusal.{Refusal}
+use Rattle.std.specs.Prelude.{◌≡◌, List, [], ◌∷◌, ◌++◌, true, false, cond, ℕ, ◌+◌, ◌≤◌, Float, Option, Some, None, Ok}
 use Rattle.step.specs.declared.Step.{Step}
 use Rattle.step.specs.declared.Step.TheVariants.{Admitted, Inadmissible}
 use Rattle.walk.specs.Machine.{begun, over, advanced, outcome_of}
 use Rattle.walk.specs.Trail.{Arguments, settled, trail}
 use Rattle.walk.specs.Visits.{visited}
-use Rattle.walk.specs.Walk.{Walked, trail_of, walk_of}
+use Rattle.walk.specs.Walk.{walk_of, walk_trail}
 use Rattle.fit_state.specs.State.{fit_part, with_fit}
 use Rattle.fit_state.specs.declared.Fit.{Fit}
 use Rattle.fit_state.specs.declared.M2N.{M2N}
@@ -32,19 +31,14 @@ CountsSteps = (n : ℕ) (w : Walking) → over (advanced n w) ≡ false → (adv
 abbrev pub OnlyFitChanges : Type 0
 OnlyFitChanges = (n : ℕ) (w : Walking) → (advanced n w).state ≡ with_fit w.state (fit_part (advanced n w).state)
 
--- begun, and gone on with for its limit
-abbrev pub in_pieces : M2N → Result Walking Refusal → Walked
-in_pieces m (Ok w) = outcome_of (advanced m.max_iter w)
-in_pieces m (Err e) = record { state = m; outcome = Err e }
-
--- the walk in one go is the walk begun and gone on with for its limit
+-- a walk in one go is, if it begins, the walk begun and gone on with for its limit; by `walk_of` and `begun`, it begins unless it is refused
 abbrev pub WholeInPieces : Type 0
-WholeInPieces = (m : M2N) (μ p : Float) → walk_of m μ p ≡ in_pieces m (begun m μ p)
+WholeInPieces = (m : M2N) (μ p : Float) (w : Walking) → begun m μ p ≡ Ok w → walk_of m μ p ≡ outcome_of (advanced m.max_iter w)
 
 -- the kept parameters, moments and error never steer a walk: with any other, the trail, what is visited and the outcome are the same
 abbrev pub FitNeverSteers : Type 0
 FitNeverSteers = (m : M2N) (f : Fit) (μ p : Float)
-    → (trail_of (with_fit m f) μ p ≡ trail_of m μ p) × (visited (with_fit m f) μ p ≡ visited m μ p) × ((walk_of (with_fit m f) μ p).outcome ≡ (walk_of m μ p).outcome)
+    → (walk_trail (with_fit m f) μ p ≡ walk_trail m μ p) × (visited (with_fit m f) μ p ≡ visited m μ p) × ((walk_of (with_fit m f) μ p).outcome ≡ (walk_of m μ p).outcome)
 
 -- ---- a trail in pieces
 -- where a trail stands after its entries, if it goes on: with the last one's mu_2 and p_1 as its pair

@@ -2,11 +2,9 @@
 use Rattle.std.specs.Prelude.{◌≡◌, List, [], ◌∷◌, false, Float}
 use Rattle.std.specs.Float.Ieee.{lt}
 use Rattle.std.specs.List.{fold}
-use Rattle.moments.specs.Mixture.{get_moments}
 use Rattle.step.specs.declared.Step.{Step}
 use Rattle.step.specs.declared.Step.TheVariants.{Admitted, Inadmissible}
-use Rattle.walk.specs.Walk.{Visit, best_of, keep_all, smaller, trail_of}
-use Rattle.fit_state.specs.Errors.{error_of}
+use Rattle.walk.specs.Walk.{Visit, best_of, keep_all, smaller, visit_of, walk_trail}
 use Rattle.fit_state.specs.State.{fit_part}
 use Rattle.fit_state.specs.declared.M2N.{M2N}
 
@@ -14,11 +12,11 @@ use Rattle.fit_state.specs.declared.M2N.{M2N}
 abbrev pub visits : M2N → List Step → List Visit
 visits m [] = []
 visits m (Inadmissible ∷ t) = visits m t
-visits m (Admitted r ∷ t) = record { parameters = r; error = error_of m (get_moments r) } ∷ visits m t
+visits m (Admitted r ∷ t) = visit_of m r ∷ visits m t
 
--- what the walk from a state visits, if it is not refused
+-- what the walk from a state visits: nothing, if it is refused
 abbrev pub visited : M2N → Float → Float → List Visit
-visited m μ p = visits m (trail_of m μ p)
+visited m μ p = visits m (walk_trail m μ p)
 
 -- what is kept of a trail is the smallest of what was kept before and what is visited, one after another
 abbrev pub KeepsTheSmallest : Type 0

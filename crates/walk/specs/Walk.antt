@@ -1,10 +1,10 @@
 -- What a walk answers: refused, or its trail's length, the reason, and the best of what was met. Definitions only.
-use Rattle.std.specs.Prelude.{List, [], ◌∷◌, ◌++◌, Bool, ◌&&◌, not, cond, ℕ, ltb, eqb, length, Float, Option, Some, None, Ok, Err}
+use Rattle.std.specs.Prelude.{List, [], ◌∷◌, ◌++◌, Bool, ◌&&◌, not, cond, ℕ, ltb, eqb, length, Float, Option, Some, None}
 use Rattle.std.specs.List.{last_or}
+use Rattle.std.specs.Result.{is_ok}
 use Rattle.std.specs.Float.Ieee.{lt, le}
 use Rattle.float.specs.Constants.{nought, one}
 use Rattle.moments.specs.Mixture.{get_moments}
-pub use Rattle.moments.specs.Lists.{five_of}
 use Rattle.moments.specs.declared.Five.{Five}
 use Rattle.moments.specs.declared.Params.{Params}
 use Rattle.refusal.specs.Numbers.{Checked}
@@ -13,7 +13,7 @@ use Rattle.refusal.specs.declared.Refusal.TheVariants.{TooFewMoments, TooManyMom
 use Rattle.step.specs.declared.Step.{Step}
 use Rattle.step.specs.declared.Step.TheVariants.{Admitted, Inadmissible}
 use Rattle.fit_state.specs.Errors.{error_of}
-use Rattle.fit_state.specs.State.{fit_part, with_fit}
+use Rattle.fit_state.specs.State.{answered, fit_part, with_fit}
 use Rattle.walk.specs.Trail.{Arguments, trail, trail_from}
 use Rattle.walk.specs.Variants.{is_variant}
 use Rattle.fit_state.specs.declared.Fit.{Fit}
@@ -33,18 +33,22 @@ pub record Visit : Type 0 where
 abbrev pub smaller : Visit → Visit → Visit
 smaller v w = cond (lt w.error v.error) w v
 
+-- an iterate, with its error at a state's moments
+abbrev pub visit_of : M2N → Params → Visit
+visit_of m r = record { parameters = r; error = error_of m (get_moments r) }
+
 -- the best that a fit has; and a fit with moments stored and this as its best
 abbrev pub best_of : Fit → Visit
 best_of f = record { parameters = f.parameters; error = f.error }
 
-abbrev pub fit_with : Five → Visit → Fit
-fit_with n v = record { new_moments = n; parameters = v.parameters; error = v.error }
+abbrev pub fit_keeping : Five → Visit → Fit
+fit_keeping n v = record { new_moments = n; parameters = v.parameters; error = v.error }
 
 -- an admitted iterate: its moments are stored, and it is kept where its error is strictly smaller
 unfoldable pub keep_of : M2N → Step → M2N
 unfolding error_of
 keep_of m Inadmissible = m
-keep_of m (Admitted r) = let n = get_moments r in with_fit m (fit_with n (smaller (best_of (fit_part m)) (record { parameters = r; error = error_of m n })))
+keep_of m (Admitted r) = with_fit m (fit_keeping (get_moments r) (smaller (best_of (fit_part m)) (visit_of m r)))
 
 -- the entries of a trail one after another
 unfoldable pub keep_all : M2N → List Step → M2N
@@ -102,14 +106,14 @@ walk_rules m p = shape_rules m ++ (not (is_weight p) ⇒ BadWeight ∷ [])
 unfoldable pub walk_refusal : M2N → Float → Checked
 walk_refusal m p = first_refusal (walk_rules m p)
 
+-- the trail that document 01 gives a walk: "a refused walk has none"
+unfoldable pub walk_trail : M2N → Float → Float → List Step
+walk_trail m μ p = cond (is_ok (walk_refusal m p)) (trail_of m μ p) []
+
 -- the state after a walk, and how it went
 abbrev pub Walked : Type 0
 Walked = After Ended
 
-abbrev pub answered : Checked → M2N → M2N → List Step → Walked
-answered (Ok u) m kept t = record { state = kept; outcome = Ok (record { count = length t; reason = reason_of m.max_iter t }) }
-answered (Err e) m kept t = record { state = m; outcome = Err e }
-
 unfoldable pub walk_of : M2N → Float → Float → Walked
 unfolding walk_refusal keep_all trail_of
-walk_of m μ p = answered (walk_refusal m p) m (keep_all m (trail_of m μ p)) (trail_of m μ p)
+walk_of m μ p = let t = trail_of m μ p in answered (walk_refusal m p) m (keep_all m t) (record { count = length t; reason = reason_of m.max_iter t })

@@ -87,7 +87,7 @@ pub enum Reason {
     Inadmissible = 3,
 }
 
-// As of Refusal: each enum gives its own number, and an impl for both would need a macro.
+// As for `Refusal`: each enum gives its own number, and an impl for both would need a macro.
 impl From<Reason> for u64 {
     ghost from_gives = { λ reason n. n ≡ number_of reason };
 
@@ -304,7 +304,8 @@ pub fn advance(w: Walking, n: usize) -> Walking
     }
 }
 
-// What a walk that is over answers; of one that is not, as if its limit were reached.
+// What a walk that is over answers. One that is not over answers as if its limit were reached, and one whose
+// state is refused answers its refusal.
 #[tactic(auto, unfolding(crate::specs::Machine::outcome_of))]
 pub fn outcome_of(w: Walking) -> Walked
     ensures { result ≡ outcome_of w }
@@ -318,7 +319,7 @@ pub fn outcome_of(w: Walking) -> Walked
 }
 
 // Iterates the variant's step from a mean and a weight.
-#[tactic(auto, using(crate::proofs::Whole::whole))]
+#[tactic(auto, using(crate::proofs::Whole::whole_in_pieces, crate::proofs::Whole::not_begun))]
 pub fn iterate_from(m: M2N, mu_2: f64, p_1: f64) -> Walked
     ensures { result ≡ walk_of m mu_2 p_1 }
 {
