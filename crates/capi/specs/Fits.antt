@@ -1,16 +1,15 @@
 -- What the C functions of the fit answer, and what they leave in the lent numbers. Definitions only.
-use Rattle.std.specs.Prelude.{◌≡◌, List, [], ◌∷◌, ◌++◌, ℕ, ◌*◌, ◌/◌, ◌≤◌, ltb, length, take, drop, Float, Option, Some, None, Result, Ok, Err}
+use Rattle.std.specs.Prelude.{◌≡◌, List, [], ◌∷◌, ◌++◌, ℕ, ◌*◌, ◌/◌, ◌≤◌, length, take, drop, Float, Option, Some, None, Result, Ok, Err}
 use Rattle.refusal.specs.Numbers.{status_of}
-use Rattle.refusal.specs.Rules.{Rule, ◌⇒◌, first_of, first_refusal}
+use Rattle.refusal.specs.Rules.{first_of, first_refusal, room_rules}
 use Rattle.refusal.specs.declared.Refusal.{Refusal}
-use Rattle.refusal.specs.declared.Refusal.TheVariants.{TooLittleRoom}
 use Rattle.fit_state.specs.declared.M2N.{M2N}
 use Rattle.fit_runs.specs.Runs.{flat_fit}
 use Rattle.fit_runs.specs.declared.Flat.{Flat}
 use Rattle.grid.specs.Search.{Fitted, single_fit}
 use Rattle.fit_state.specs.Rows.{six}
 use Rattle.fit_state.specs.declared.row.FitResultRow.{FitResultRow}
-use Rattle.capi_states.specs.States.{fit_rules, state_of, with_front, with_state}
+use Rattle.capi_states.specs.States.{state_of, with_front, with_state}
 
 -- what came of one search, and of several runs
 abbrev pub Outcome : Type 0
@@ -54,19 +53,12 @@ row_after (Ok b) before = with_best before b
 abbrev pub SingleFitLeaves : Outcome → M2N → List Float → List Float → ℕ → ℕ → List Float → List Float → ℕ → Type 0
 SingleFitLeaves o m fit row rows answer fit' row' rows' = (answer ≡ status_of o) × (fit' ≡ fit_after o m fit) × (row' ≡ row_after o row) × (rows' ≡ count_of o rows)
 
--- 12 numbers of a fit are needed, and 6 of a row
-abbrev pub room_rules : List Float → List Float → List Rule
-room_rules fit row =
-    ltb (length fit) 12 ⇒ TooLittleRoom
-    ∷ ltb (length row) 6 ⇒ TooLittleRoom
-    ∷ []
-
--- the search that is asked for, and its outcome
+-- the search that is asked for, and its outcome, refused where fewer than 12 numbers of a fit are lent, or 6 of a row
 unfoldable pub fitted : List Float → ℕ → Float → ℕ → List Float → List Float → List Float → Fitted
 fitted moments variant factor max-iter override weights fit = single_fit (state_of moments variant factor max-iter 1 fit) (override_of override) weights
 
 unfoldable pub outcome_of : List Float → ℕ → Float → ℕ → List Float → List Float → List Float → List Float → Outcome
-outcome_of moments variant factor max-iter override weights fit row = first_of (first_refusal (room_rules fit row)) (fitted moments variant factor max-iter override weights fit).outcome
+outcome_of moments variant factor max-iter override weights fit row = first_of (first_refusal (room_rules (length fit) 12 ++ room_rules (length row) 6)) (fitted moments variant factor max-iter override weights fit).outcome
 
 -- ---- several runs
 abbrev pub count_after : Filled → ℕ → ℕ
@@ -86,9 +78,9 @@ MpFitLeaves o numbers rows count answer rows' count' = (answer ≡ status_of o) 
 abbrev pub Roomy : Flat → List Float → Type 0
 Roomy f rows = (n : ℕ) → f.outcome ≡ Ok n → (n ≤ 64) × (6 * n ≤ length f.numbers) × (6 * n ≤ length rows)
 
--- the runs that are asked for, with a place for every six lent numbers, and how they went
+-- the runs that are asked for, with a place for every six lent numbers, and how they went, refused where fewer than 12 numbers of a fit are lent
 unfoldable pub ran : List Float → ℕ → Float → ℕ → ℕ → List Float → List Float → List Float → Flat
 ran moments variant factor max-iter n-runs weights fit rows = flat_fit (state_of moments variant factor max-iter n-runs fit) weights (length rows / 6)
 
 unfoldable pub filled_of : List Float → ℕ → Float → ℕ → ℕ → List Float → List Float → List Float → Filled
-filled_of moments variant factor max-iter n-runs weights fit rows = first_of (first_refusal (fit_rules fit)) (ran moments variant factor max-iter n-runs weights fit rows).outcome
+filled_of moments variant factor max-iter n-runs weights fit rows = first_of (first_refusal (room_rules (length fit) 12)) (ran moments variant factor max-iter n-runs weights fit rows).outcome

@@ -41,9 +41,10 @@ fn leave(f: Fitted, fit: &mut [f64], row: &mut [f64], rows: &mut usize) -> Resul
     Ok(())
 }
 
-// One search (M2N::single_fit_loop). `fit` holds the state, 12 numbers: mu_1, mu_2, sigma_1, sigma_2,
-// p_1, error, epsilon, new_moments; `row` takes a row, 6 numbers, and `rows` how many there are, 0 or 1.
-// Answers 0, or the number of the refusal, which leaves all as it was; 8 where `fit` or `row` is too short.
+// One search (the Rust's M2N::single_fit_loop). `fit` holds the state, 12 numbers: mu_1, mu_2, sigma_1,
+// sigma_2, p_1, error, epsilon, new_moments; `row` takes a row, 6 numbers, and `rows` how many there are,
+// 0 or 1. Answers 0, or the number of the refusal, which leaves all as it was; 8 where `fit` or `row` is
+// too short.
 #[unsafe(no_mangle)]
 pub extern "C" fn woddirme_single_fit_loop(
     moments: &[f64],
@@ -79,8 +80,8 @@ fn leave_rows(f: Flat, rows: &mut [f64], count: &mut usize) -> Result<(), Refusa
     Ok(())
 }
 
-// Several runs (M2N::mp_fit), each from a copy of the state in `fit` and with the next weights. `rows`
-// takes the rows, six numbers each, and `count` how many there are. Answers 0, or the number of the
+// Several runs (the Rust's M2N::mp_fit), each from a copy of the state in `fit` and with the next weights.
+// `rows` takes the rows, six numbers each, and `count` how many there are. Answers 0, or the number of the
 // refusal, which leaves all as it was; 8 where `fit` is too short or `rows` has too few places.
 #[unsafe(no_mangle)]
 pub extern "C" fn woddirme_mp_fit(

@@ -1,10 +1,8 @@
 -- The fit state as flat numbers, as a C program holds it. Definitions only.
-use Rattle.std.specs.Prelude.{List, [], ◌∷◌, ◌++◌, ℕ, ltb, length, get_or, take, drop, replicate, Float}
+use Rattle.std.specs.Prelude.{List, ◌∷◌, ◌++◌, ℕ, length, get_or, take, drop, replicate, Float}
 use Rattle.float.specs.Constants.{nought}
 use Rattle.moments.specs.Lists.{listed, params_listed}
 use Rattle.moments.specs.declared.Params.{Params}
-use Rattle.refusal.specs.Rules.{Rule, ◌⇒◌}
-use Rattle.refusal.specs.declared.Refusal.TheVariants.{TooLittleRoom}
 use Rattle.fit_state.specs.State.{state_with}
 use Rattle.fit_state.specs.declared.Fit.{Fit}
 use Rattle.fit_state.specs.declared.M2N.{M2N}
@@ -16,10 +14,6 @@ at l i = get_or l i nought
 -- the first n numbers, zeros where there are fewer
 abbrev pub first : ℕ → List Float → List Float
 first n l = take n l ++ drop (length l) (replicate n nought)
-
--- 12 numbers of a fit are needed
-abbrev pub fit_rules : List Float → List Rule
-fit_rules fit = ltb (length fit) 12 ⇒ TooLittleRoom ∷ []
 
 -- a fit state from flat numbers: mu_1, mu_2, sigma_1, sigma_2, p_1, error, epsilon, then new_moments, five
 abbrev pub fit_of : List Float → Fit

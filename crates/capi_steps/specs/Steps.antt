@@ -1,19 +1,15 @@
 -- What the C functions of a step answer, and what they leave in the lent places. Definitions only.
-use Rattle.std.specs.Prelude.{◌≡◌, List, [], ◌∷◌, ℕ, ltb, length, Float, Result, Ok, Err}
+use Rattle.std.specs.Prelude.{◌≡◌, List, ℕ, length, Float, Result, Ok, Err}
 use Rattle.refusal.specs.Numbers.{status_of, unless_refused}
-use Rattle.refusal.specs.Rules.{Rule, ◌⇒◌, first_refusal}
+use Rattle.refusal.specs.Rules.{first_refusal, room_rules}
 use Rattle.refusal.specs.declared.Refusal.{Refusal}
-use Rattle.refusal.specs.declared.Refusal.TheVariants.{TooLittleRoom}
 use Rattle.step.specs.StepNumbers.{admitted_of, numbers_of}
 use Rattle.step.specs.declared.Step.{Step}
 use Rattle.capi_states.specs.States.{with_front}
 
 -- five places are needed, whether the step is admitted or not; tested after what the step turns away
-abbrev pub places_rules : List Float → List Rule
-places_rules numbers = ltb (length numbers) 5 ⇒ TooLittleRoom ∷ []
-
 abbrev pub roomed : Result Step Refusal → List Float → Result Step Refusal
-roomed (Ok s) numbers = unless_refused (first_refusal (places_rules numbers)) s
+roomed (Ok s) numbers = unless_refused (first_refusal (room_rules (length numbers) 5)) s
 roomed (Err e) numbers = Err e
 
 -- what stands in the lent places after: a refusal leaves them as they were

@@ -1,5 +1,6 @@
 -- The values of a reply, as docs/REQUESTS.md lists them: texts that are put one after another, each value after a blank. Definitions only.
 use Rattle.std.specs.Prelude.{ℕ, List, [], ◌∷◌, ◌++◌, Float, Option, Some, None, take}
+use Rattle.fit_state.specs.Rows.{six}
 use Rattle.fit_state.specs.declared.row.FitResultRow.{FitResultRow}
 use Rattle.moments.specs.Lists.{listed, params_listed}
 use Rattle.refusal.specs.Numbers.{number_of}
@@ -18,7 +19,7 @@ walked w = natural w.ended.count ++ (natural (reason.number_of w.ended.reason) +
 
 -- the row that a search found, if it found one
 abbrev pub found : Option FitResultRow → List (List ℕ)
-found (Some r) = bytes " row" ∷ fractions (r.mu_1 ∷ r.mu_2 ∷ r.sigma_1 ∷ r.sigma_2 ∷ r.p_1 ∷ r.error ∷ [])
+found (Some r) = bytes " row" ∷ fractions (six r)
 found None = bytes " none" ∷ []
 
 -- and the state after it

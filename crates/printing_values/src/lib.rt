@@ -22,7 +22,7 @@ pub fn put_values(text: &mut Text, r: Reply, s: &[u8], xs: &[f64])
         Reply::Natural(n) => numbers::put_natural(text, n),
         Reply::Instant(i) => numbers::put_instant(text, i),
         Reply::Moments(m) => numbers::put_fractions(text, &<[f64; 5]>::from(m)),
-        Reply::Stepped(s) => states::put_step(text, s),
+        Reply::Stepped(step) => states::put_step(text, step),
         Reply::Walked(w) => states::put_walk(text, w),
         Reply::Searched(f) => states::put_search(text, f),
         Reply::Listed { count, len } => lists::put(text, count, len, xs),

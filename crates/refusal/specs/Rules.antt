@@ -1,7 +1,8 @@
 -- What turns a call away, as data: rules in the order of testing, one a line, each a test and why it turns away. Definitions and statements only.
-use Rattle.std.specs.Prelude.{◌≡◌, Bool, true, false, cond, List, [], ◌∷◌, ◌⊎◌, Result, Ok, Err}
+use Rattle.std.specs.Prelude.{◌≡◌, Bool, true, false, cond, ℕ, ltb, List, [], ◌∷◌, ◌⊎◌, Result, Ok, Err}
 use Rattle.refusal.specs.Numbers.{Checked}
 use Rattle.refusal.specs.declared.Refusal.{Refusal}
+use Rattle.refusal.specs.declared.Refusal.TheVariants.{TooLittleRoom}
 
 infix 68 ◌⇒◌
 -- a test, and why it turns away where it holds
@@ -12,6 +13,10 @@ pub data Rule : Type 0 where
 abbrev pub first_refusal : List Rule → Checked
 first_refusal [] = Ok tt
 first_refusal (test ⇒ refusal ∷ rules) = cond test (Err refusal) (first_refusal rules)
+
+-- less room than is needed
+abbrev pub room_rules : ℕ → ℕ → List Rule
+room_rules room needed = ltb room needed ⇒ TooLittleRoom ∷ []
 
 -- no test holds
 abbrev pub NoneHolds : List Rule → Type 0

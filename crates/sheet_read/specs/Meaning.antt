@@ -1,9 +1,8 @@
 -- What a reading leaves in the lent lists, and what the code's functions promise each other. Definitions only.
-use Rattle.std.specs.Prelude.{ℕ, min, ◌≡◌, List, [], ◌∷◌, ◌++◌, map, ltb, ℤ, Float, length, drop, Result, Ok, Err}
+use Rattle.std.specs.Prelude.{ℕ, min, ◌≡◌, List, ◌++◌, map, ℤ, Float, length, drop, Result, Ok, Err}
 use Rattle.std.specs.Float.{binary64}
 use Rattle.std.specs.Float.Ieee.{of_bits}
-use Rattle.refusal.specs.Rules.{Rule, ◌⇒◌, first_refusal}
-use Rattle.refusal.specs.declared.Refusal.TheVariants.{TooLittleRoom}
+use Rattle.refusal.specs.Rules.{first_refusal, room_rules}
 use Rattle.sheet_forms.specs.declared.Span.{Span}
 use Rattle.sheet_read.specs.Sheet.{Reading, reading, sheet}
 use Rattle.sheet_read.specs.declared.SheetError.{SheetError}
@@ -24,9 +23,6 @@ answer_of (Ok l) = Ok (length l)
 answer_of (Err e) = Err e
 
 -- last of all: less room in the lists than spans
-abbrev pub room_rules : ℕ → ℕ → List Rule
-room_rules room spans = ltb room spans ⇒ TooLittleRoom ∷ []
-
 abbrev pub room_for : ℕ → Reading → Reading
 room_for room (Ok l) = reading (first_refusal (room_rules room (length l))) (Ok l)
 room_for room (Err e) = Err e
