@@ -3,8 +3,8 @@ use Rattle.std.specs.Prelude.{ℕ, ◌-◌, ◌/◌, ◌^◌, min, Option, None,
 use Rattle.budget.specs.Budget.{budget_sizes}
 use Rattle.bet_sizing.specs.declared.counts.Side.TheVariants.{Long, Short}
 use Rattle.bet_sizing.specs.Counts.{concurrent_counts}
-use Rattle.bet_sizing.specs.Refusals.{list_after, spans_rules}
-use Rattle.refusal.specs.Numbers.{Checked, unless_refused}
+use Rattle.bet_sizing.specs.Refusals.{spans_rules}
+use Rattle.refusal.specs.Numbers.{Checked, if_accepted, unless_refused}
 use Rattle.refusal.specs.Rules.{first_refusal}
 use Rattle.refusal.specs.declared.Refusal.{Refusal}
 use Rattle.text.specs.Decode.{Got, got}
@@ -60,7 +60,7 @@ rows columns a checked = unless_refused checked (record { count = length a.start
 
 -- a list after the answer: new fractions in front, or as it was where the answer is a refusal
 abbrev pub column : Checked → Asked → List Float → List Float → List Float
-column checked a new old = list_after checked (length a.starts) new old
+column checked a new old = if_accepted checked (new ++ drop (length a.starts) old) old
 
 -- the counts are two columns, the longs in the first half of the lent list and the shorts in the second
 abbrev pub sides_refusal : ℕ → Asked → Checked

@@ -1,6 +1,6 @@
 -- What the counts answer, and what the lent lists hold after it: document 01's refusals in its order, which are the budget's too. Definitions only.
-use Rattle.std.specs.Prelude.{ℕ, min, ◌≡◌, not, ◌&&◌, Result, Ok, Err, List, [], ◌∷◌, ◌++◌, eqb, ltb, length, drop, ℤ, Float}
-use Rattle.refusal.specs.Numbers.{Checked, unless_refused}
+use Rattle.std.specs.Prelude.{ℕ, min, ◌≡◌, not, ◌&&◌, Result, List, [], ◌∷◌, ◌++◌, eqb, ltb, length, drop, ℤ, Float}
+use Rattle.refusal.specs.Numbers.{Checked, if_accepted, unless_refused}
 use Rattle.refusal.specs.Rules.{Rule, ◌⇒◌, first_refusal}
 use Rattle.refusal.specs.declared.Refusal.{Refusal}
 use Rattle.refusal.specs.declared.Refusal.TheVariants.{TooLittleRoom, TooLarge, UnequalLengths}
@@ -15,16 +15,11 @@ spans_rules starts ends sides room =
     ∷ ltb room starts ⇒ TooLittleRoom
     ∷ []
 
--- a lent list after a refusal, and after none: n new places, and past them what was there
-abbrev pub list_after : Checked → ℕ → List Float → List Float → List Float
-list_after (Ok u) n new old = new ++ drop n old
-list_after (Err e) n new old = old
-
 abbrev pub counts_refusal : List ℤ → List ℤ → List Float → List Float → List Float → Checked
 counts_refusal ss es ds long short = first_refusal (spans_rules (length ss) (length es) (length ds) (min (length long) (length short)))
 
--- get_concurrent_sides: its answer, and the two lent lists before and after it
+-- get_concurrent_sides: its answer, and the two lent lists before and after it: new places in front, and past them what was there
 pub record ConcurrentSides (ss es : List ℤ) (ds long long' short short' : List Float) (answer : Result ℕ Refusal) : Type 0 where
   pub answered : answer ≡ unless_refused (counts_refusal ss es ds long short) (length ss)
-  pub longs : long' ≡ list_after (counts_refusal ss es ds long short) (length ss) (concurrent_counts Long ss es ds) long
-  pub shorts : short' ≡ list_after (counts_refusal ss es ds long short) (length ss) (concurrent_counts Short ss es ds) short
+  pub longs : long' ≡ if_accepted (counts_refusal ss es ds long short) (concurrent_counts Long ss es ds ++ drop (length ss) long) long
+  pub shorts : short' ≡ if_accepted (counts_refusal ss es ds long short) (concurrent_counts Short ss es ds ++ drop (length ss) short) short

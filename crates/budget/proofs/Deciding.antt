@@ -8,12 +8,13 @@ use lib.Seq.{take_at}
 use lib.IntN.{ℤ}
 use lib.Ieee.{Float}
 use Rattle.std.specs.Prelude.{Result, Ok}
+use Rattle.refusal.specs.Numbers.{if_accepted}
 use Rattle.refusal.specs.Rules.{first_refusal}
 use Rattle.refusal.specs.declared.Refusal.{Refusal}
 use Rattle.bet_sizing.specs.declared.counts.Side.{Side}
 use Rattle.bet_sizing.specs.declared.counts.Side.TheVariants.{Long, Short}
 use Rattle.bet_sizing.specs.Counts.{concurrent, concurrent_counts}
-use Rattle.bet_sizing.specs.Refusals.{ConcurrentSides, counts_refusal, list_after, spans_rules}
+use Rattle.bet_sizing.specs.Refusals.{ConcurrentSides, counts_refusal, spans_rules}
 use Rattle.bet_sizing.proofs.Refusing.{accepted, accepted_in}
 use Rattle.budget.specs.Budget.{BetSizeBudget, budget_sizes, largest}
 use Rattle.budget.specs.Sizes.{sizes_of}
@@ -24,7 +25,7 @@ module _ {ss es : List ℤ} {ds long long' short short' : List Float} {counted :
   none : (counts_refusal ss es ds long short ≡ Ok tt) × (length ss ≡ n)
   none = accepted _ (length ss) n (sym h.answered ∙ e)
 
-  counts : (side : Side) (list old : List Float) → list ≡ list_after (counts_refusal ss es ds long short) (length ss) (concurrent_counts side ss es ds) old → take n list ≡ concurrent_counts side ss es ds
+  counts : (side : Side) (list old : List Float) → list ≡ if_accepted (counts_refusal ss es ds long short) (concurrent_counts side ss es ds ++ drop (length ss) old) old → take n list ≡ concurrent_counts side ss es ds
   counts side list old g =
       ap (take n) (rw none.0 at g)
       ∙ take_at (concurrent_counts side ss es ds) (drop (length ss) old) n (length-map ss (λ t. as_f64 (concurrent side t ss es ds)) ∙ none.1)

@@ -1,13 +1,13 @@
 -- The budget size of chapter 10 of Advances in Financial Machine Learning: the live longs over their largest number, less the same of the shorts; the Rust's bet_size_budget, line by line. Definitions only.
-use Rattle.std.specs.Prelude.{ℕ, ◌≡◌, cond, Result, List, [], ◌∷◌, map, ℤ, Float, length}
+use Rattle.std.specs.Prelude.{ℕ, ◌≡◌, cond, Result, List, [], ◌∷◌, ◌++◌, map, ℤ, Float, length, drop}
 use Rattle.std.specs.Float.{binary64}
 use Rattle.std.specs.Float.Ieee.{div, lt, sub}
 use Rattle.float.specs.Constants.{nought}
 use Rattle.float.specs.Leaves.{as_f64, larger_of}
 use Rattle.bet_sizing.specs.declared.counts.Side.TheVariants.{Long, Short}
 use Rattle.bet_sizing.specs.Counts.{concurrent, concurrent_counts}
-use Rattle.bet_sizing.specs.Refusals.{list_after, spans_rules}
-use Rattle.refusal.specs.Numbers.{Checked, unless_refused}
+use Rattle.bet_sizing.specs.Refusals.{spans_rules}
+use Rattle.refusal.specs.Numbers.{Checked, if_accepted, unless_refused}
 use Rattle.refusal.specs.Rules.{first_refusal}
 use Rattle.refusal.specs.declared.Refusal.{Refusal}
 
@@ -42,4 +42,4 @@ budget_refusal ss es ds size = first_refusal (spans_rules (length ss) (length es
 -- bet_size_budget: its answer, and the lent list before and after it
 pub record BetSizeBudget (ss es : List ℤ) (ds size size' : List Float) (answer : Result ℕ Refusal) : Type 0 where
   pub answered : answer ≡ unless_refused (budget_refusal ss es ds size) (length ss)
-  pub sizes : size' ≡ list_after (budget_refusal ss es ds size) (length ss) (budget_sizes ss es ds) size
+  pub sizes : size' ≡ if_accepted (budget_refusal ss es ds size) (budget_sizes ss es ds ++ drop (length ss) size) size

@@ -1,7 +1,7 @@
 -- What the C functions of the fit answer, and what they leave in the lent numbers. Definitions only.
 use Rattle.std.specs.Prelude.{◌≡◌, List, [], ◌∷◌, ◌++◌, ℕ, ◌*◌, ◌/◌, ◌≤◌, length, take, drop, Float, Option, Some, None, Result, Ok, Err}
-use Rattle.refusal.specs.Numbers.{status_of}
-use Rattle.refusal.specs.Rules.{first_of, first_refusal, room_rules}
+use Rattle.refusal.specs.Numbers.{first_of, status_of}
+use Rattle.refusal.specs.Rules.{first_refusal, room_rules}
 use Rattle.refusal.specs.declared.Refusal.{Refusal}
 use Rattle.fit_state.specs.declared.M2N.{M2N}
 use Rattle.fit_runs.specs.Runs.{flat_fit}

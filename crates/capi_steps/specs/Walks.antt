@@ -1,7 +1,7 @@
 -- What the C function of a walk answers, and what it leaves in the lent places. Definitions only.
 use Rattle.std.specs.Prelude.{◌≡◌, List, ℕ, length, Float, Result, Ok, Err}
-use Rattle.refusal.specs.Numbers.{status_of}
-use Rattle.refusal.specs.Rules.{first_of, first_refusal, room_rules}
+use Rattle.refusal.specs.Numbers.{first_of, status_of}
+use Rattle.refusal.specs.Rules.{first_refusal, room_rules}
 use Rattle.refusal.specs.declared.Refusal.{Refusal}
 use Rattle.walk.specs.Reasons.{number_of}
 use Rattle.walk.specs.Walk.{Walked, walk_of}

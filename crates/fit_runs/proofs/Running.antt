@@ -9,11 +9,11 @@ use lib.Ieee.{Float, binary64, of_bits}
 use borrow.Author.Rules.{part_to_end}
 use Rattle.fit_state.specs.declared.M2N.{M2N}
 use Rattle.std.proofs.Common.{Option, Some, None, Result, Ok, Err, ◌⊎◌, inl, inr}
-use Rattle.refusal.specs.Numbers.{Checked, unless_refused}
+use Rattle.refusal.specs.Numbers.{Checked, if_accepted, unless_refused}
 use Rattle.refusal.specs.declared.Refusal.{Refusal}
 use Rattle.fit_refusals.specs.Known.{RunsKnown}
 use Rattle.fit_refusals.specs.Refusals.{rows_of, runs_refusal}
-use Rattle.fit_runs.specs.Runs.{Runnable, rows_out, rows_to, unrefused, run_rows, mp_fit, put_in, all_runs, flat_fit}
+use Rattle.fit_runs.specs.Runs.{Runnable, rows_out, rows_to, run_rows, mp_fit, put_in, all_runs, flat_fit}
 use Rattle.fit_state.specs.Rows.{flat_of, flat_in64, rows_at}
 use Rattle.grid.specs.Search.{Fitted, single_fit}
 use Rattle.fit_runs.specs.declared.Flat.{Flat}
@@ -49,7 +49,7 @@ pub few_rows : (m : M2N) (ws : List Float) (places : ℕ) → (length (run_rows 
 unfolding run_rows
 few_rows m ws places = go (runs_refusal m ws places) (known m ws places)
   where
-    go : (r : Checked) → (r ≡ Ok tt → Runnable m ws × (m.n_runs ≤ places)) → (length (unrefused r (rows_to m ws m.n_runs)) ≤ places) × (length (unrefused r (rows_to m ws m.n_runs)) ≤ 64)
+    go : (r : Checked) → (r ≡ Ok tt → Runnable m ws × (m.n_runs ≤ places)) → (length (if_accepted r (rows_to m ws m.n_runs) []) ≤ places) × (length (if_accepted r (rows_to m ws m.n_runs) []) ≤ 64)
     go (Ok u) h = (omega (arith, few m ws m.n_runs, (h refl).1), omega (arith, few m ws m.n_runs, (h refl).0.0))
     go (Err e) h = (omega arith, omega arith)
 
@@ -84,11 +84,11 @@ flat r rows = record { numbers = flat_in64 rows; outcome = unless_refused r (len
 
 pub refused : (m : M2N) (ws : List Float) (places : ℕ) (e : Refusal) → Err e ≡ runs_refusal m ws places → ◌≡◌ {A = Flat} (record { numbers = replicate 384 (of_bits binary64 0); outcome = Err e }) (flat_fit m ws places)
 unfolding flat flat_fit mp_fit run_rows flat_in64 flat_of of_bits
-refused m ws places e h = ap (λ r. flat r (unrefused r (rows_to m ws m.n_runs))) h
+refused m ws places e h = ap (λ r. flat r (if_accepted r (rows_to m ws m.n_runs) [])) h
 
 pub allowed : (m : M2N) (ws : List Float) (places : ℕ) (r : Flat) → Ok tt ≡ runs_refusal m ws places → r ≡ all_runs m ws → r ≡ flat_fit m ws places
 unfolding flat flat_fit mp_fit run_rows
-allowed m ws places r h hr = hr ∙ ap (λ r. flat r (unrefused r (rows_to m ws m.n_runs))) h
+allowed m ws places r h hr = hr ∙ ap (λ r. flat r (if_accepted r (rows_to m ws m.n_runs) [])) h
 
 -- ---- the rows of the answer, read back
 pub flat_rows : (m : M2N) (ws : List Float) (places : ℕ) → rows_at (flat_fit m ws places).numbers (length (run_rows m ws places)) ≡ run_rows m ws places
@@ -100,7 +100,7 @@ as_many : (c : Checked) (k n : ℕ) → unless_refused c k ≡ Ok n → k ≡ n
 as_many (Ok u) k n e = cc
 as_many (Err x) k n e = cc
 
-none_of : (c : Checked) (k : ℕ) (e : Refusal) (rows : List FitResultRow) → unless_refused c k ≡ Err e → unrefused c rows ≡ []
+none_of : (c : Checked) (k : ℕ) (e : Refusal) (rows : List FitResultRow) → unless_refused c k ≡ Err e → if_accepted c rows [] ≡ []
 none_of (Ok u) k e rows h = cc
 none_of (Err x) k e rows h = refl
 

@@ -1,6 +1,6 @@
 -- Several runs (the Rust's mp_fit): each starts from a copy of the state and takes the next weights. Definitions only.
 use Rattle.std.specs.Prelude.{List, [], ◌++◌, ℕ, zero, suc, ◌*◌, ◌≤◌, length, drop, Float, Option, Some, None, Result, Ok, Err}
-use Rattle.refusal.specs.Numbers.{Checked, unless_refused}
+use Rattle.refusal.specs.Numbers.{if_accepted, unless_refused}
 use Rattle.refusal.specs.declared.Refusal.{Refusal}
 use Rattle.fit_state.specs.declared.M2N.{M2N}
 use Rattle.fit_refusals.specs.Refusals.{rows_of, runs_refusal}
@@ -21,13 +21,9 @@ rows_to m weights zero = []
 rows_to m weights (suc k) = rows_to m weights k ++ rows_out (single_fit m None (drop (k * rows_of m.epsilon) weights)).outcome
 
 -- all rows, and none where the runs are refused
-abbrev pub unrefused : Checked → List FitResultRow → List FitResultRow
-unrefused (Ok u) rows = rows
-unrefused (Err e) rows = []
-
 unfoldable pub run_rows : M2N → List Float → ℕ → List FitResultRow
 unfolding runs_refusal rows_to
-run_rows m weights places = unrefused (runs_refusal m weights places) (rows_to m weights m.n_runs)
+run_rows m weights places = if_accepted (runs_refusal m weights places) (rows_to m weights m.n_runs) []
 
 -- how many rows there are, or the refusal
 unfoldable pub mp_fit : M2N → List Float → ℕ → Result ℕ Refusal

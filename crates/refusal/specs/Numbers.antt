@@ -29,10 +29,14 @@ module _ {A : Type 0} where
   status_of (Ok x) = 0
   status_of (Err e) = number_of e
 
+  -- the refusal of a check, or else what comes after it
+  abbrev pub first_of : Checked → Result A Refusal → Result A Refusal
+  first_of (Ok u) after = after
+  first_of (Err e) after = Err e
+
   -- the value where nothing is refused
   abbrev pub unless_refused : Checked → A → Result A Refusal
-  unless_refused (Ok u) x = Ok x
-  unless_refused (Err e) x = Err e
+  unless_refused c x = first_of c (Ok x)
 
   -- one value where nothing is refused, another where something is
   abbrev pub if_accepted : Checked → A → A → A

@@ -1,5 +1,5 @@
 -- What turns a call away, as data: rules in the order of testing, one a line, each a test and why it turns away. Definitions and statements only.
-use Rattle.std.specs.Prelude.{◌≡◌, Bool, true, false, cond, ℕ, ltb, List, [], ◌∷◌, ◌⊎◌, Result, Ok, Err}
+use Rattle.std.specs.Prelude.{◌≡◌, Bool, true, false, cond, ℕ, ltb, List, [], ◌∷◌, ◌⊎◌, Ok, Err}
 use Rattle.refusal.specs.Numbers.{Checked}
 use Rattle.refusal.specs.declared.Refusal.{Refusal}
 use Rattle.refusal.specs.declared.Refusal.TheVariants.{TooLittleRoom}
@@ -27,12 +27,6 @@ NoneHolds (test ⇒ refusal ∷ rules) = (test ≡ false) × NoneHolds rules
 abbrev pub FirstHolds : Refusal → List Rule → Type 0
 FirstHolds e [] = ⊥
 FirstHolds e (test ⇒ refusal ∷ rules) = ((test ≡ true) × (refusal ≡ e)) ⊎ ((test ≡ false) × FirstHolds e rules)
-
-module _ {A : Type 0} where
-  -- the refusal of a check, or else what comes after it
-  abbrev pub first_of : Checked → Result A Refusal → Result A Refusal
-  first_of (Ok u) after = after
-  first_of (Err e) after = Err e
 
 -- ---- the laws
 -- nothing is turned away exactly where no test holds
