@@ -70,7 +70,7 @@ fn request(kind: Kind, size: usize, s: &[u8], xs: &mut [f64]) -> Option<Reply>
         Kind::ConcurrentSides => concurrent_sides(asked, xs),
         Kind::Budget => bet_size_budget(asked, xs),
     };
-    Some(rows.map_or_else(Reply::Refused, Reply::Spanned))
+    Some(rows.map_or_else(Reply::from, Reply::Spanned))
 }
 
 // The counts of longs go into the first half of xs, those of shorts into the second.

@@ -60,7 +60,7 @@ room m ws k count numbers h hn hc =
     let f = few m ws k in
     rw (hn, hc, length_flat_64 (rows_to m ws k) (omega (arith, f, h))) (omega (arith, f, h))
 
-put_flat : (rows : List FitResultRow) (o : Result (Option FitResultRow) Refusal) → length rows < 64 → put_in (flat_in64 rows) (length rows) o ≡ flat_in64 (rows ++ rows_out o)
+pub put_flat : (rows : List FitResultRow) (o : Result (Option FitResultRow) Refusal) → length rows < 64 → put_in (flat_in64 rows) (length rows) o ≡ flat_in64 (rows ++ rows_out o)
 put_flat rows (Err e) h = rw append-nil
 put_flat rows (Ok None) h = rw append-nil
 put_flat rows (Ok (Some r)) h = row_behind rows r h

@@ -24,9 +24,9 @@ search_to m deviation weights (suc i) =
     let s = search_to m deviation weights i in looked s (walk_of s.state (mean_of m deviation (suc i)) (get_or weights i nan)).state
 
 -- ---- what the parts promise each other
--- the starting means of the 256 rows after the first `from`
-abbrev pub Means : M2N → Float → ℕ → List Float → Type 0
-Means m deviation from u = (j : ℕ) → j < 256 → get_or u j nan ≡ mean_of m deviation (suc (from + j))
+-- the starting means of the k rows after the first `from`, of 256 at most
+abbrev pub Means : M2N → Float → ℕ → ℕ → List Float → Type 0
+Means m deviation from k u = (j : ℕ) → j < 256 → j < k → get_or u j nan ≡ mean_of m deviation (suc (from + j))
 
 -- σ₂² of the first step from each of 256 means, as far as there are weights
 abbrev pub Variances : List Float → List Float → List Float → List Float → Type 0

@@ -71,14 +71,15 @@ impl Grid {
         i as f64 * self.m.epsilon * self.m.factor * self.deviation + self.m.moments[0]
     }
 
-    // The starting means of the 256 rows after the first `from`.
-    fn means(self, from: usize) -> [f64; 256]
+    // The starting means of the k rows after the first `from`, of 256 at most. Of a block that is not full the
+    // others would be worked out for nothing, and a search of a row or two took half as long again.
+    fn means(self, from: usize, k: usize) -> [f64; 256]
         requires { from ≤ 131072 }
-        ensures { Means self.m self.deviation from result }
+        ensures { Means self.m self.deviation from k result }
     {
         let mut u = [0.0f64; 256];
-        for (j, mean) in u.iter_mut().enumerate() {
-            *mean = self.mean(from + j + 1);
+        for j in 0..usize::min(k, 256) {
+            u[j] = self.mean(from + j + 1);
         }
         u
     }
@@ -91,7 +92,7 @@ impl Grid {
         ensures { result ≡ search_to self.m self.deviation weights.now (min (from + 256) (length weights.now)) }
     {
         let block = &weights[from..];
-        let means = self.means(from);
+        let means = self.means(from, block.len());
         let variances = variances(self.m.first_five(), means, block);
         let mut t = s;
         for j in 0..usize::min(block.len(), 256) {

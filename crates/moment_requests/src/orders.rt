@@ -41,7 +41,7 @@ fn centered_moment(words: &[u8]) -> Option<Reply>
     let mut m = [0.0; 17];
     let n = protocol::only(protocol_lists::read_next_list(words, &mut m))?;
     let centred = moments::centered_moment(kept(&m, n), order);
-    Some(centred.map_or_else(Reply::Refused, Reply::Fraction))
+    Some(centred.map_or_else(Reply::from, Reply::Fraction))
 }
 
 fn raw_moment(words: &[u8], xs: &mut [f64]) -> Option<Reply>
@@ -54,5 +54,5 @@ fn raw_moment(words: &[u8], xs: &mut [f64]) -> Option<Reply>
     let n = protocol::only(protocol_lists::read_next_list(words, &mut c))?;
     let places = room.min(xs.len());
     let written = moments::raw_moment(kept(&c, n), mean, &mut xs[..places]);
-    Some(written.map_or_else(Reply::Refused, |count| Reply::Listed { count, len: count }))
+    Some(written.map_or_else(Reply::from, |count| Reply::Listed { count, len: count }))
 }

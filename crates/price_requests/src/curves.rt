@@ -43,5 +43,5 @@ fn limit_price_sigmoid(words: &[u8]) -> Option<Reply>
 {
     let [t_pos, pos, f, w, max_pos] = only(read_next_fractions::<5>(words))?;
     let limit = limit_price::limit_price_sigmoid(t_pos, pos, f, w, max_pos);
-    Some(limit.map_or_else(Reply::Refused, Reply::Fraction))
+    Some(limit.map_or_else(Reply::from, Reply::Fraction))
 }

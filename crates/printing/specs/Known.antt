@@ -7,7 +7,6 @@ use Rattle.tables.specs.Tables.{Row, ◌⇒◌, answers, expected}
 use Rattle.text.specs.Bytes.{bytes}
 use Rattle.text.specs.Decode.{instant, natural, nibble, numeral, word}
 use Rattle.text.specs.Print.{decimal, hex, shown, width}
-use Rattle.refusal.specs.declared.Refusal.TheVariants.{TooFewWeights}
 use Rattle.protocol_lists.specs.Lists.{values_of}
 use Rattle.replies.specs.declared.forms.Columns.TheVariants.{One, Two}
 use Rattle.replies.specs.declared.forms.Reply as reply
@@ -29,7 +28,7 @@ printed r = flatten (line r (bytes "budget 2 2 0 5") (one ∷ one ∷ minus ∷ 
 abbrev replies : List (Row (Option reply.Reply) (List ℕ))
 replies =
     (None ⇒ bytes "bad\n")
-    ∷ (Some (reply.TheVariants.Refused TooFewWeights) ⇒ bytes "refused 6\n")
+    ∷ (Some (reply.TheVariants.Refused 6) ⇒ bytes "refused 6\n")
     ∷ (Some (reply.TheVariants.Stepped Inadmissible) ⇒ bytes "inadmissible\n")
     ∷ (Some (reply.TheVariants.Instant (negsuc 4)) ⇒ bytes "ok -5\n")
     ∷ (Some (reply.TheVariants.Listed 1 2) ⇒ bytes "ok 1 3ff0000000000000 3ff0000000000000\n")

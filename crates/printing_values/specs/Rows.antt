@@ -4,12 +4,13 @@ use Rattle.std.specs.Float.{nan}
 use Rattle.protocol.specs.Words.{next_instant, next_natural}
 use Rattle.protocol_lists.specs.Lists.{or_none, values_of}
 use Rattle.replies.specs.declared.forms.Columns.{Columns}
-use Rattle.replies.specs.declared.forms.Columns.TheVariants.{One, Two}
+use Rattle.replies.specs.declared.forms.Columns.TheVariants.{Zero, One, Two}
 use Rattle.replies.specs.declared.forms.SpanRows.{SpanRows}
 use Rattle.printing_values.specs.Texts.{fractions, instant}
 
 -- the fractions of row i, one of each column: the first column begins where the list does, the second in its middle
 abbrev pub entries : Columns → List Float → ℕ → List Float
+entries Zero xs i = []
 entries One xs i = get_or xs i nan ∷ []
 entries Two xs i = get_or xs i nan ∷ get_or (drop (length xs / 2) xs) i nan ∷ []
 

@@ -3,19 +3,17 @@ use Rattle.std.specs.Prelude.{ℕ, List, [], ◌∷◌, ◌++◌, Float, Option,
 use Rattle.fit_state.specs.Rows.{six}
 use Rattle.fit_state.specs.declared.row.FitResultRow.{FitResultRow}
 use Rattle.moments.specs.Lists.{listed, params_listed}
-use Rattle.refusal.specs.Numbers.{number_of}
 use Rattle.text.specs.Bytes.{bytes}
 use Rattle.replies.specs.declared.forms.Report.{Report}
 use Rattle.replies.specs.declared.forms.Reply as reply
 use Rattle.replies.specs.declared.forms.Search.{Search}
 use Rattle.step.specs.StepNumbers.{numbers_of}
-use Rattle.walk.specs.Reasons as reason
 use Rattle.printing_values.specs.Rows.{rows}
 use Rattle.printing_values.specs.Texts.{fractions, instant, natural}
 
 -- how a walk ended, and the state after it
 abbrev pub walked : Report → List (List ℕ)
-walked w = natural w.ended.count ++ (natural (reason.number_of w.ended.reason) ++ fractions (params_listed w.state.parameters ++ (w.state.error ∷ listed w.state.new_moments)))
+walked w = natural w.count ++ (natural w.reason ++ fractions (params_listed w.state.parameters ++ (w.state.error ∷ listed w.state.new_moments)))
 
 -- the row that a search found, if it found one
 abbrev pub found : Option FitResultRow → List (List ℕ)
@@ -28,7 +26,7 @@ searched f = found f.row ++ (bytes " state" ∷ fractions (params_listed f.state
 
 -- the values of a reply, for the request s and the list xs that stands beside the reply
 abbrev pub values : reply.Reply → List ℕ → List Float → List (List ℕ)
-values (reply.TheVariants.Refused refusal) s xs = natural (number_of refusal)
+values (reply.TheVariants.Refused number) s xs = natural number
 values (reply.TheVariants.Fraction x) s xs = fractions (x ∷ [])
 values (reply.TheVariants.Natural n) s xs = natural n
 values (reply.TheVariants.Instant i) s xs = instant i

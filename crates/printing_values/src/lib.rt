@@ -17,7 +17,7 @@ pub fn put_values(text: &mut Text, r: Reply, s: &[u8], xs: &[f64])
     ensures { Puts text.old text.new (values r s.now xs.now) }
 {
     match r {
-        Reply::Refused(refusal) => numbers::put_natural(text, u64::from(refusal)),
+        Reply::Refused(number) => numbers::put_natural(text, number),
         Reply::Fraction(x) => numbers::put_fractions(text, &[x]),
         Reply::Natural(n) => numbers::put_natural(text, n),
         Reply::Instant(i) => numbers::put_instant(text, i),

@@ -36,12 +36,14 @@ fn put_rows(text: &mut Text, columns: Columns, s: &[u8], xs: &[f64])
     }
 }
 
-// The fractions of row i. The first column begins where the list does, the second in its middle.
+// The fractions of row i, of no column none. The first column begins where the list does, the second in its middle.
+#[tactic(auto, unfolding(crate::specs::Texts::fractions))]
 fn put_entries(text: &mut Text, columns: Columns, xs: &[f64], i: usize)
     ensures { Puts text.old text.new (fractions (entries columns xs.now i)) }
 {
     let first = entry(xs, i);
     match columns {
+        Columns::Zero => {}
         Columns::One => numbers::put_fractions(text, &[first]),
         Columns::Two => numbers::put_fractions(text, &[first, entry(&xs[xs.len() / 2..], i)]),
     }

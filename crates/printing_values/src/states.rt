@@ -22,8 +22,8 @@ pub(crate) fn put_step(text: &mut Text, s: Step)
 pub(crate) fn put_walk(text: &mut Text, w: Report)
     ensures { Puts text.old text.new (walked w) }
 {
-    numbers::put_natural(text, w.ended.count as u64);
-    numbers::put_natural(text, u64::from(w.ended.reason));
+    numbers::put_natural(text, w.count as u64);
+    numbers::put_natural(text, w.reason);
     numbers::put_fractions(text, &<[f64; 5]>::from(w.state.parameters));
     numbers::put_fractions(text, &[w.state.error]);
     numbers::put_fractions(text, &<[f64; 5]>::from(w.state.new_moments));

@@ -71,3 +71,8 @@ module _ {A : Type 0} (form : List ℕ → Got A) (n : ℕ) (s : List ℕ) where
 
   pub all_many : (t : List ℕ) (old v : List A) → length old ≡ n → entries_of form n s ≡ got tt t → v ≡ in_front (values_of form n s) old → many form n s ≡ got v t
   all_many t old v o e is = rw (e, is ∙ over_all (values_of form n s) old (all_values form n s t e ∙ sym o))
+
+  -- the same, where their number is told by the places
+  pub all_places : (t : List ℕ) (old v : List A) → length old ≡ n → entries_of form (length old) s ≡ got tt t → v ≡ in_front (values_of form (length old) s) old → many form n s ≡ got v t
+  all_places t old v o e is =
+      all_many t old v o (ap (λ (k : ℕ). entries_of form k s) (sym o) ∙ e) (is ∙ ap (λ (k : ℕ). in_front (values_of form k s) old) o)

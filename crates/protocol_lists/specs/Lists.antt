@@ -1,5 +1,5 @@
 -- Lists of words of a request, and the state, decoded. Definitions only.
-use Rattle.std.specs.Prelude.{ℕ, zero, suc, ◌-◌, ◌^◌, List, [], ◌∷◌, Float, ℤ, get_or}
+use Rattle.std.specs.Prelude.{ℕ, zero, suc, ◌-◌, ◌^◌, List, [], ◌∷◌, Float, ℤ, get_or, length}
 use Rattle.std.specs.Float.{nan}
 use Rattle.std.proofs.lemmas.List.Edits.{sets}
 use Rattle.moments.specs.Lists.{five_of, params_of}
@@ -12,6 +12,10 @@ module _ {A : Type 0} where
   unfoldable pub entries_of : (List ℕ → Got A) → ℕ → List ℕ → Got (Unit {0})
   entries_of form zero s = got tt s
   entries_of form (suc n) s = form s ▷ (λ x t. entries_of form n t)
+
+-- n fractions, each after a blank
+abbrev pub entries : ℕ → List ℕ → Got (Unit {0})
+entries n s = entries_of next_fraction n s
 
 -- what follows from a value and the bytes after it; nothing where the bytes are not of the form
 module _ {A B : Type 0} where
@@ -29,6 +33,10 @@ module _ {A : Type 0} where
 module _ {A : Type 0} where
   abbrev pub in_front : List A → List A → List A
   in_front values old = sets old 0 values
+
+-- what a lent list holds after as many fractions as it has places were to be read into it
+abbrev pub fractions_in : List Float → List ℕ → List Float
+fractions_in old s = in_front (values_of next_fraction (length old) s) old
 
 -- how many, and then so many of a form
 module _ {A : Type 0} where

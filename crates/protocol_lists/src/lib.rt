@@ -1,10 +1,10 @@
 // Lists in a request, and the state that one begins from.
 #![tactic(auto)]
 
-ghost use Rattle.std.specs.Prelude.{◌≡◌, set, take};
-ghost use Rattle.text.specs.Meaning.{got_of};
+ghost use Rattle.std.specs.Prelude.{◌≡◌, length, set, take};
+ghost use Rattle.text.specs.Meaning.{got_of, left_of};
 ghost use Rattle.protocol.specs.Words.{next};
-ghost use Rattle.protocol_lists.specs.Lists.{fractions, list_in, list_of, next_state};
+ghost use Rattle.protocol_lists.specs.Lists.{entries, fractions, fractions_in, list_in, list_of, next_state};
 
 use fit_state::Fit;
 use moments::{Five, Params};
@@ -43,17 +43,28 @@ pub fn kept<T: Copy>(xs: &[T], n: usize) -> &[T]
     &xs[..n.min(xs.len())]
 }
 
+// Fractions, as many as xs has places, each after a blank, and the bytes after them. Where one is no
+// fraction, those before it stand in xs.
+pub fn read_fractions_into<'a>(s: &'a [u8], xs: &mut [f64]) -> Option<&'a [u8]>
+    ensures counted { entries (length xs.old) s.now ≡ left_of result }
+    ensures kept { xs.new ≡ fractions_in xs.old s.now }
+{
+    let n = xs.len();
+    let mut rest = s;
+    for i in 0..n {
+        let (value, after) = protocol::read_next::<f64>(rest)?;
+        xs[i] = value;
+        rest = after;
+    }
+    Some(rest)
+}
+
 // N fractions, each after a blank.
 pub fn read_next_fractions<const N: usize>(s: &[u8]) -> Option<([f64; N], &[u8])>
     ensures { fractions N s.now ≡ got_of result }
 {
     let mut xs = [0.0; N];
-    let mut rest = s;
-    for x in &mut xs {
-        let (value, after) = protocol::read_next::<f64>(rest)?;
-        *x = value;
-        rest = after;
-    }
+    let rest = read_fractions_into(s, &mut xs)?;
     Some((xs, rest))
 }
 

@@ -4,6 +4,7 @@ use Prim.Native.String.{String}
 use Rattle.text.specs.Bytes.{bytes}
 use Rattle.text.specs.Decode.{Got, got, bad, ◌▷◌}
 use Rattle.protocol.specs.Words.{only, words_after}
+use Rattle.refusal.specs.Numbers.{number_of}
 use Rattle.refusal.specs.declared.Refusal.{Refusal}
 use Rattle.replies.specs.declared.forms.Reply.{Reply}
 use Rattle.replies.specs.declared.forms.Reply.TheVariants.{Refused}
@@ -41,4 +42,4 @@ named name words s other = after name (λ t. only (words t)) s other
 module _ {A : Type 0} where
   abbrev pub or_refused : (A → Reply) → Result A Refusal → Reply
   or_refused value (Ok x) = value x
-  or_refused value (Err e) = Refused e
+  or_refused value (Err e) = Refused (number_of e)

@@ -1,14 +1,18 @@
 // The replies.
+ghost use Rattle.std.specs.Prelude.{◌≡◌};
+ghost use Rattle.refusal.specs.Numbers.{number_of};
+ghost use Rattle.replies.specs.declared.forms.Reply.TheVariants.{Refused};
+
 use fit_state::{Fit, FitResultRow};
 use moments::Five;
 use refusal::Refusal;
 use step::Step;
-use walk::Ended;
 
-// How a walk ended, and the state after it.
+// How a walk ended, after how many steps and by which number of a reason, and the state after it.
 #[derive(Clone, Copy)]
 pub struct Report {
-    pub ended: Ended,
+    pub count: usize,
+    pub reason: u64,
     pub state: Fit,
 }
 
@@ -24,6 +28,7 @@ pub struct Search {
 // reply, the second from the middle of the list on.
 #[derive(Clone, Copy)]
 pub enum Columns {
+    Zero,
     One,
     Two,
 }
@@ -37,10 +42,11 @@ pub struct SpanRows {
     pub starts: usize,
 }
 
-// The reply to a request; a line that is no request has none.
+// The reply to a request; a line that is no request has none. Refusals and reasons are the numbers that are
+// printed, so that a line can be put of any.
 #[derive(Clone, Copy)]
 pub enum Reply {
-    Refused(Refusal),
+    Refused(u64),
     Fraction(f64),
     Natural(u64),
     Instant(i64),
@@ -51,4 +57,14 @@ pub enum Reply {
     // so many entries, of len fractions in all, which stand in a list beside the reply
     Listed { count: usize, len: usize },
     Spanned(SpanRows),
+}
+
+impl From<Refusal> for Reply {
+    ghost from_gives = { λ refusal reply. reply ≡ Refused (number_of refusal) };
+
+    fn from(refusal: Refusal) -> Reply
+        ensures { result ≡ Refused (number_of refusal) }
+    {
+        Reply::Refused(u64::from(refusal))
+    }
 }

@@ -22,6 +22,7 @@ fn mp_fit(s: &[u8], xs: &mut [f64]) -> Option<Reply>
     ensures { (result ≡ only (words (runs_reply (length xs.old)) asked s.now))
         × (xs.new ≡ only_or xs.old (words (rows_in xs.old) asked s.now)) }
 {
+    let mut weights = [0.0; 4096]; // first: made below the words, it was cleared twice
     let (variant, s) = protocol::read_next(s)?;
     let mut moments = [0.0; 16];
     let (len, s) = protocol_lists::read_next_list(s, &mut moments)?;
@@ -30,7 +31,6 @@ fn mp_fit(s: &[u8], xs: &mut [f64]) -> Option<Reply>
     let (n_runs, s) = protocol::read_next(s)?;
     let (places, s) = protocol::read_next(s)?;
     let (fit, s) = protocol_lists::read_next_state(s)?;
-    let mut weights = [0.0; 4096];
     let n = protocol::only(protocol_lists::read_next_list(s, &mut weights))?;
     let m = M2N {
         moments,
@@ -61,7 +61,7 @@ fn fill(m: M2N, weights: &[f64], places: usize, xs: &mut [f64]) -> Reply
                 len: 6 * n,
             }
         }
-        Err(refusal) => Reply::Refused(refusal),
+        Err(refusal) => Reply::from(refusal),
     }
 }
 

@@ -19,6 +19,7 @@ pub fn answer(s: &[u8]) -> Option<Reply>
 fn single_fit(words: &[u8]) -> Option<Reply>
     ensures { result ≡ only (single words.now) }
 {
+    let mut weights = [0.0; 4096]; // first: made below the words, it was cleared twice
     let (variant, words) = protocol::read_next(words)?;
     let mut moments = [0.0; 16];
     let (len, words) = protocol_lists::read_next_list(words, &mut moments)?;
@@ -27,7 +28,6 @@ fn single_fit(words: &[u8]) -> Option<Reply>
     let (factor, words) = protocol::read_next(words)?;
     let (max_iter, words) = protocol::read_next(words)?;
     let (fit, words) = protocol_lists::read_next_state(words)?;
-    let mut weights = [0.0; 4096];
     let n = protocol::only(protocol_lists::read_next_list(words, &mut weights))?;
     let m = M2N {
         moments,
@@ -62,6 +62,6 @@ fn reply(f: Fitted) -> Reply
             state: Fit::from(f.state),
             epsilon: f.state.epsilon,
         }),
-        Err(refusal) => Reply::Refused(refusal),
+        Err(refusal) => Reply::from(refusal),
     }
 }

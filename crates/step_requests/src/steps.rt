@@ -31,7 +31,7 @@ fn one_step(words: &[u8], variant: Variant) -> Option<Reply>
     let (n, words) = protocol_lists::read_next_list(words, &mut m)?;
     let [mu_2, p_1] = protocol::only(protocol_lists::read_next_fractions::<2>(words))?;
     let answer = stepped(variant, protocol_lists::kept(&m, n), mu_2, p_1);
-    Some(answer.map_or_else(Reply::Refused, Reply::Stepped))
+    Some(answer.map_or_else(Reply::from, Reply::Stepped))
 }
 
 // Of the shape of Variant's own step, but of lists, with their refusals.

@@ -5,6 +5,7 @@ use Rattle.text.specs.Decode.{Got}
 use Rattle.protocol.specs.Words.{next_natural}
 use Rattle.protocol_lists.specs.Lists.{at, fraction_list, fractions, in_front, next_state}
 use Rattle.fit_state.specs.State.{fit_part, state_with}
+use Rattle.walk.specs.Reasons.{number_of}
 use Rattle.walk.specs.Walk as walked
 use Rattle.walk.specs.Walk.{walk_of}
 use Rattle.fit_state.specs.declared.Fit.{Fit}
@@ -15,7 +16,7 @@ use Rattle.replies.specs.declared.forms.Reply.TheVariants.{Walked}
 
 -- how a walk ended, with the state after it, as a reply
 abbrev pub walked_reply : walked.Walked → Reply
-walked_reply w = or_refused (λ ended. Walked (record { ended = ended; state = fit_part w.state })) w.outcome
+walked_reply w = or_refused (λ ended. Walked (record { count = ended.count; reason = number_of ended.reason; state = fit_part w.state })) w.outcome
 
 -- the state that a request gives: 16 moments of which n were given, epsilon, factor, how many runs, the step limit, and what a STATE gives
 abbrev pub state_from : ℕ → List Float → ℕ → Float → Float → ℕ → ℕ → Fit → M2N

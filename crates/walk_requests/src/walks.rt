@@ -39,9 +39,10 @@ fn reply(walked: Walked) -> Reply
 {
     match walked.outcome {
         Ok(ended) => Reply::Walked(Report {
-            ended,
+            count: ended.count,
+            reason: u64::from(ended.reason),
             state: Fit::from(walked.state),
         }),
-        Err(refusal) => Reply::Refused(refusal),
+        Err(refusal) => Reply::from(refusal),
     }
 }

@@ -10,11 +10,11 @@ loop-j-preserved-then-variances-j c =
     let j = c.loop-j.j in
     let below : j < 256 = omega arith in
     let weight = block_weight c.args.self.m c.args.self.deviation c.args.weights.now c.args.from j in
-    row_passed _ _ _ _ _ _ _ _ _ _ (omega arith) c.loop-j.invariant c.first_five.ensures (c.means-means.ensures j below) weight (c.variances-variances.ensures j below (omega arith)) c.if-variances-j.true
+    row_passed _ _ _ _ _ _ _ _ _ _ (omega arith) c.loop-j.invariant c.first_five.ensures (c.means-means.ensures j below (omega arith)) weight (c.variances-variances.ensures j below (omega arith)) c.if-variances-j.true
 
 pub loop-j-preserved : goal.loop-j-preserved
 loop-j-preserved c =
     let j = c.loop-j.j in
     let below : j < 256 = omega arith in
     let weight = block_weight c.args.self.m c.args.self.deviation c.args.weights.now c.args.from j in
-    row_more _ _ _ _ _ _ _ _ _ (omega arith) c.loop-j.invariant (c.means-means.ensures j below) weight c.walk_row-t.ensures
+    row_more _ _ _ _ _ _ _ _ _ (omega arith) c.loop-j.invariant (c.means-means.ensures j below (omega arith)) weight c.walk_row-t.ensures

@@ -7,4 +7,4 @@ pub returns : goal.returns
 returns c =
     let state = puts_more _ _ c.put_fractions.ensures (puts_more _ _ c.put_fractions-2.ensures c.put_fractions-3.ensures) in
     puts_then c.put_natural.ensures
-    (puts_then (rw c.from.ensures at c.put_natural-2.ensures) (rw (c.from-2.ensures, c.from-3.ensures) at state))
+    (puts_then c.put_natural-2.ensures (rw (c.from.ensures, c.from-2.ensures) at state))

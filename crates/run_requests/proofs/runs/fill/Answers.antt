@@ -37,4 +37,4 @@ pub returns-in-Err : goal.returns-in-Err
 unfolding flat_of
 returns-in-Err c =
     let e = answered c.args.m c.args.weights.now c.min-room.result _ _ refl c.min.ensures c.mp_fit.ensures.0 c.in-Err.is in
-    rw (← c.min-room.ensures, e, none_run c.args.m c.args.weights.now c.min-room.result _ e) (refl, refl)
+    rw (c.from.ensures, ← c.min-room.ensures, e, none_run c.args.m c.args.weights.now c.min-room.result _ e) (refl, refl)
