@@ -72,7 +72,7 @@ impl Grid {
     }
 
     // The starting means of the k rows after the first `from`, of 256 at most. Of a block that is not full the
-    // others would be worked out for nothing, and a search of a row or two took half as long again.
+    // others would be worked out for nothing, and a search of a row or two took twice as long.
     fn means(self, from: usize, k: usize) -> [f64; 256]
         requires { from ≤ 131072 }
         ensures { Means self.m self.deviation from k result }
