@@ -42,8 +42,8 @@ pub struct SpanRows {
     pub starts: usize,
 }
 
-// The reply to a request; a line that is no request has none. Refusals and reasons are the numbers that are
-// printed, so that a line can be put of any.
+// The reply to a request; a line that is no request has none. A refusal and a reason stand as the number that
+// is printed, so that any can be put.
 #[derive(Clone, Copy)]
 pub enum Reply {
     Refused(u64),

@@ -23,7 +23,8 @@ fn of_subnormal(b: u64) -> f64
 pub fn sqrt(x: f64) -> f64
     ensures { result ≡ root binary64 x }
 {
-    // below the normal numbers: of a subnormal one the processor's root takes many times as long as of another
+    // below the normal numbers. Of a subnormal one the processor's root takes many times as long as of another;
+    // zeros and negatives, which are below them too, go on
     if x < f64::MIN_POSITIVE {
         let bits = std::num::f64_to_bits_with_nan(x);
         if 0 < bits && bits < 1 << 52 {
